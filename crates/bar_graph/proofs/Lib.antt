@@ -1,0 +1,6 @@
+pub mod Axis
+pub mod Writes
+pub mod Stripes
+pub mod FullPictures
+pub mod Examples
+pub mod Ways

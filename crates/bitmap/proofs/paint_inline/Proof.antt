@@ -1,0 +1,57 @@
+use Rattle.bitmap.proofs.Bits.{inline-lent, inline-below, inline-none}
+use borrow.Author.Needs.{needs}
+use Rattle.bitmap.proofs.paint_inline.Statement.{statement}
+use Rattle.bitmap.proofs.paint_inline.Tie as tie
+
+inline-place-requires : tie.Need-inline-place-requires
+inline-place-requires c κs = search needs
+
+cast-y : tie.Need-cast-y
+cast-y c = search needs
+
+add-least : tie.Need-add-least
+add-least c = search needs
+
+add-least-2 : tie.Need-add-least-2
+add-least-2 c = search needs
+
+least-requires : tie.Need-least-requires
+least-requires c κs = search needs
+
+add-paint-bits : tie.Need-add-paint-bits
+add-paint-bits c = search needs
+
+slice-aggregate-paint-bits : tie.Need-slice-aggregate-paint-bits
+slice-aggregate-paint-bits c = search needs
+
+paint-bits-requires : tie.Need-paint-bits-requires
+paint-bits-requires c κs = search needs
+
+same-length : tie.Need-same-length
+same-length c = search needs
+
+returns : tie.Need-returns
+returns c = let a = c .before .before .before .before .before .before .before .before .before .before .before .before .args in inline-lent (a .x1) (a .y1) (a .x2) (a .y2) (a .k) (a .byte) (a .fb .now) _ _ _ _ (c .before .before .before .before .before .before .before .before .before .inline-place .ensures .column) (c .before .before .before .before .before .before .before .before .before .inline-place .ensures .row) (c .before .before .before .before .before .least .ensures) (search needs) (c .before .before .paint-bits .ensures)
+
+returns-2 : tie.Need-returns-2
+returns-2 c = let a = c .before .before .before .before .before .args in inline-below (a .x1) (a .y1) (a .x2) (a .y2) (a .k) (a .byte) (a .fb .now) (a .fb .now) _ _ 0 (c .before .before .inline-place .ensures .column) (c .before .before .inline-place .ensures .row) (λ i. c .before .before .before .before .slice-known .given i .fits) (search needs)
+
+returns-3 : tie.Need-returns-3
+returns-3 c = let a = c .before .before .args in inline-none (a .x1) (a .y1) (a .x2) (a .y2) (a .k) (a .byte) (a .fb .now) (λ i. c .before .slice-known .given i .fits) (search needs)
+
+pub paint-inline-spec : {M : Type 1} → statement M
+paint-inline-spec =
+    tie.close
+    (tie.spec
+    inline-place-requires
+    cast-y
+    add-least
+    add-least-2
+    least-requires
+    add-paint-bits
+    slice-aggregate-paint-bits
+    paint-bits-requires
+    same-length
+    returns
+    returns-2
+    returns-3)

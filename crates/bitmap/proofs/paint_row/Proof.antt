@@ -1,0 +1,55 @@
+use Rattle.pixels.proofs.Growth.{span-end}
+use borrow.Author.Needs.{needs}
+use Prim.Native.Nat.{_-_}
+use Rattle.bitmap.proofs.Bits.{RowOfBits, row-start, row-step}
+use Rattle.bitmap.proofs.paint_row.Statement.{statement}
+use Rattle.bitmap.proofs.paint_row.Tie as tie
+
+abbrev Inv-loop : tie.InvT-loop
+Inv-loop rows₀ x1 x2 y w first bits x₀ k₀ rows x k = RowOfBits x1 x2 y w x k bits rows₀ rows
+
+abbrev μ-loop : tie.MeasureT-loop
+μ-loop rows₀ x1 x2 y w first bits x₀ k₀ rows x k = x2 - x
+
+loop-holds : tie.Need-loop-holds Inv-loop μ-loop
+loop-holds c = row-start (λ i. c .before .slice-known .given i .fits) (search needs)
+
+bit-at-requires : tie.Need-bit-at-requires Inv-loop μ-loop
+bit-at-requires c κs = search needs
+
+plot-requires : tie.Need-plot-requires Inv-loop μ-loop
+plot-requires c κs = search needs
+
+add-x : tie.Need-add-x Inv-loop μ-loop
+add-x c = search needs
+
+add-k : tie.Need-add-k Inv-loop μ-loop
+add-k c = search needs
+
+loop-less : tie.Need-loop-less Inv-loop μ-loop
+loop-less c = search needs
+
+loop-again : tie.Need-loop-again Inv-loop μ-loop
+loop-again c = row-step (c .before .before .before .before .before .before .loop .inv) (search needs) (c .before .before .plot .ensures) (c .before .before .before .before .bit-at .ensures)
+
+same-length : tie.Need-same-length Inv-loop μ-loop
+same-length c = search needs
+
+returns : tie.Need-returns Inv-loop μ-loop
+returns c = span-end (c .before .loop .inv .span-is) (search needs)
+
+pub paint-row-spec : {M : Type 1} → statement M
+paint-row-spec =
+    tie.close
+    (tie.spec
+    Inv-loop
+    μ-loop
+    loop-holds
+    bit-at-requires
+    plot-requires
+    add-x
+    add-k
+    loop-less
+    loop-again
+    same-length
+    returns)

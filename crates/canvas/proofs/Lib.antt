@@ -1,0 +1,3 @@
+pub mod Strokes
+pub mod Lent
+pub mod Footprint

@@ -1,0 +1,125 @@
+// Colours, the sizes of the framebuffer, and the painting and reading of single pixels.
+ghost use mathlib.Core.Path.{_≡_};
+ghost use Rattle.pixels.specs.Framebuffer.{cell, fill, black, rowStart, rowsEnd, rowCount};
+ghost use Rattle.pixels.specs.Regions.{point};
+ghost use Rattle.canvas.specs.Colour.{colour, colourOf};
+ghost use Prim.Native.Nat.{min};
+ghost use Rattle.canvas.specs.Canvas.{paintedOf, masked, RowsAre};
+
+// The sizes of the framebuffer: columns, rows, bytes in a row, and bytes in all.
+pub const WIDTH: u16 = 240;
+
+pub const HEIGHT: u16 = 64;
+
+pub const STRIDE: usize = 30;
+
+pub const LENGTH: usize = 1920;
+
+pub struct Colour {
+    pub black: bool,
+}
+
+impl Colour {
+    pub const BLACK: Colour = Colour { black: true };
+
+    pub const WHITE: Colour = Colour { black: false };
+
+    // 1 is black, any other byte white.
+    pub fn from_byte(byte: u8) -> Colour
+        ensures { λ r. ⌜ r ≡ colourOf byte ⌝ }
+    {
+        if byte == 1 {
+            Colour::BLACK
+        } else {
+            Colour::WHITE
+        }
+    }
+}
+
+// A byte whose bits under the mask are in the colour c; the others stay.
+fn painted(byte: u8, mask: u8, c: Colour) -> u8
+    ensures { λ r. ⌜ r ≡ paintedOf byte mask (c .black) ⌝ }
+{
+    if c.black { byte | mask } else { byte & !mask }
+}
+
+// The number of the byte that holds column x of row y.
+fn cell(x: u16, y: u16) -> usize
+    ensures { λ r. ⌜ r ≡ cell x y ⌝ }
+{
+    STRIDE * (y as usize) + (x / 8) as usize
+}
+
+// Where a mask has a 1, the pixels of byte number `at`; beyond the framebuffer nothing.
+pub fn stamp(fb: &mut [u8], at: usize, mask: u8, c: Colour)
+    ensures { λ _. ⌜ now (fb .exit) ≡ fill (masked at mask) (c .black) (now (fb .entry)) ⌝ }
+{
+    if at < fb.len() {
+        fb[at] = painted(fb[at], mask, c);
+    }
+}
+
+// One pixel; beyond the framebuffer nothing.
+pub fn plot(fb: &mut [u8], x: u16, y: u16, c: Colour)
+    ensures { λ _. ⌜ now (fb .exit) ≡ fill (point x y) (c .black) (now (fb .entry)) ⌝ }
+{
+    if x < WIDTH {
+        stamp(fb, cell(x, y), 128u8 >> (x % 8), c);
+    }
+}
+
+// Whether a pixel is black; beyond the framebuffer all are white.
+pub fn is_black(fb: &[u8], x: u16, y: u16) -> bool
+    ensures { λ r. ⌜ r ≡ black (now (fb .entry)) x y ⌝ }
+{
+    if x < WIDTH {
+        let at = cell(x, y);
+        if at < fb.len() {
+            return (fb[at] >> (7 - x % 8)) % 2 == 1;
+        }
+    }
+    false
+}
+
+// Rows of a framebuffer to lend on: their first byte, the byte behind them, and how many they are.
+pub struct Rows {
+    pub from: usize,
+    pub to: usize,
+    pub count: u16,
+}
+
+// The first byte of row y, or the end of a framebuffer of `len` bytes that has no such row.
+fn row_start(len: usize, y: u16) -> usize
+    ensures { λ r. ⌜ r ≡ rowStart len y ⌝ }
+{
+    let at = STRIDE * (y as usize);
+    if at < len { at } else { len }
+}
+
+// Rows y1 up to, and not with, y2 of a framebuffer of `len` bytes, as far as it has them.
+pub fn rows_between(len: usize, y1: u16, y2: u16) -> Rows
+    ensures { λ r. ⌜ RowsAre len y1 y2 r ⌝ }
+{
+    let from = row_start(len, y1);
+    if y2 <= y1 {
+        return Rows {
+            from: from,
+            to: from,
+            count: 0,
+        };
+    }
+    let to = row_start(len, y2);
+    let held = (to - from + STRIDE - 1) / STRIDE;
+    Rows {
+        from: from,
+        to: to,
+        count: held as u16,
+    }
+}
+
+// The lesser of two coordinates.
+pub fn least(a: u16, b: u16) -> u16
+    ensures { λ r. ⌜ r ≡ min a b ⌝ }
+{
+    if a < b { a } else { b }
+}

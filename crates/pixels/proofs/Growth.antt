@@ -1,0 +1,80 @@
+-- A region that grows pixel by pixel, and row by row: the invariants of the painters' loops.
+-- Assumes nothing.
+use mathlib.Core.Path.{_≡_, refl, sym, ap, _∙_}
+use mathlib.Core.Bool.{Bool, _||_, and-false, and-or-distrib-left, and-or-distrib-right}
+use mathlib.Core.List.{List}
+use Prim.Native.Nat.{ℕ, _+_, _<_, _≤_, max}
+use native.Mathlib.Omega.{arith}
+use lib.Dec.{eqb}
+use lib.ListN.{length}
+use Rattle.pixels.specs.Framebuffer.{Picture, put, fill}
+use Rattle.pixels.specs.Regions.{within, point, span, box}
+use Rattle.pixels.proofs.Pictures.{Bytes}
+use Rattle.pixels.proofs.Painting.{put-same, put-region, put-off, put-put, length-repaint}
+use Rattle.pixels.proofs.Intervals.{within-none, within-more, within-iff, point-true}
+
+-- one pixel of the picture p
+pub put-point : (x y : ℕ) (c : Bool) (p : Picture) (g : List ℕ) → c ≡ p x y → fill (point x y) c g ≡ put (point x y) p g
+put-point x y c p g e =
+    put-same (point x y) (point x y) (λ u v. c) p g (λ u v on. refl) (λ u v on k. let t = point-true x y u v k in e ∙ rw (t .0, t .1))
+
+span-none : (x y : ℕ) (p : Picture) (g : List ℕ) → Bytes g → g ≡ put (span x x y) p g
+span-none x y p g b = put-off (span x x y) p g b (λ u v on. rw (within-none x u))
+
+span-more : (x1 x y : ℕ) (c : Bool) (p : Picture) (g : List ℕ) → x1 ≤ x → c ≡ p x y
+    → fill (point x y) c (put (span x1 x y) p g) ≡ put (span x1 (x + 1) y) p g
+span-more x1 x y c p g h e =
+    put-point x y c p (put (span x1 x y) p g) e ∙ put-put (span x1 x y) (point x y) p g
+    ∙ put-region (λ u v. span x1 x y u v || point x y u v) (span x1 (x + 1) y) p g
+    (λ u v on. sym (and-or-distrib-right (within x1 x u) (eqb u x) (eqb v y)) ∙ rw (within-more x1 x u h))
+
+-- a row painted up to column x, on the way from x1 to x2
+pub record SpanPainted (x1 x2 y x : ℕ) (p : Picture) (g₀ g : List ℕ) : Type 0 where
+  pub low : x1 ≤ x
+  pub high : x ≤ max x1 x2
+  pub long : length g ≡ length g₀
+  pub shows : g ≡ put (span x1 x y) p g₀
+
+module _ {x1 x2 y : ℕ} {p : Picture} {g₀ : List ℕ} where
+  pub span-start : Bytes g₀ → SpanPainted x1 x2 y x1 p g₀ g₀
+  span-start b = record { low = omega arith; high = omega arith; long = refl; shows = span-none x1 y p g₀ b }
+
+  pub span-step : {x : ℕ} {g h : List ℕ} {c : Bool} → SpanPainted x1 x2 y x p g₀ g → x < x2 → h ≡ fill (point x y) c g → c ≡ p x y
+      → SpanPainted x1 x2 y (x + 1) p g₀ h
+  span-step {x} {g} {h} {c} s l e f = record { low = omega arith; high = omega arith; long = ap length all ∙ length-repaint _ g₀; shows = all }
+    where
+      all : h ≡ put (span x1 (x + 1) y) p g₀
+      all = e ∙ ap (fill (point x y) c) (s .shows) ∙ span-more x1 x y c p g₀ (s .low) f
+
+  pub span-end : {x : ℕ} {g : List ℕ} → SpanPainted x1 x2 y x p g₀ g → x2 ≤ x → g ≡ put (span x1 x2 y) p g₀
+  span-end {x} s l =
+      s .shows ∙ put-region (span x1 x y) (span x1 x2 y) p g₀ (λ u v on. rw (within-iff x1 x u x1 x2 u (omega arith) (omega arith)))
+
+box-none : (x1 x2 y : ℕ) (p : Picture) (g : List ℕ) → Bytes g → g ≡ put (box x1 x2 y y) p g
+box-none x1 x2 y p g b = put-off (box x1 x2 y y) p g b (λ u v on. rw (within-none y v) (and-false (within x1 x2 u)))
+
+box-more : (x1 x2 y1 y : ℕ) (p : Picture) (g : List ℕ) → y1 ≤ y
+    → put (span x1 x2 y) p (put (box x1 x2 y1 y) p g) ≡ put (box x1 x2 y1 (y + 1)) p g
+box-more x1 x2 y1 y p g h =
+    put-put (box x1 x2 y1 y) (span x1 x2 y) p g
+    ∙ put-region (λ u v. box x1 x2 y1 y u v || span x1 x2 y u v) (box x1 x2 y1 (y + 1)) p g
+    (λ u v on. sym (and-or-distrib-left (within x1 x2 u) (within y1 y v) (eqb v y)) ∙ rw (within-more y1 y v h))
+
+-- the first n rows painted up to row y
+pub record RowsPainted (x1 x2 n y : ℕ) (p : Picture) (g₀ g : List ℕ) : Type 0 where
+  pub high : y ≤ n
+  pub long : length g ≡ length g₀
+  pub shows : g ≡ put (box x1 x2 0 y) p g₀
+
+module _ {x1 x2 n : ℕ} {p : Picture} {g₀ : List ℕ} where
+  pub rows-start : Bytes g₀ → RowsPainted x1 x2 n 0 p g₀ g₀
+  rows-start b = record { high = omega arith; long = refl; shows = box-none x1 x2 0 p g₀ b }
+
+  pub rows-step : {y : ℕ} {g h : List ℕ} → RowsPainted x1 x2 n y p g₀ g → y < n → h ≡ put (span x1 x2 y) p g → RowsPainted x1 x2 n (y + 1) p g₀ h
+  rows-step {y} {g} {h} s l e = record { high = omega arith; long = ap length all ∙ length-repaint _ g₀; shows = all }
+    where
+      all : h ≡ put (box x1 x2 0 (y + 1)) p g₀
+      all = e ∙ ap (put (span x1 x2 y) p) (s .shows) ∙ box-more x1 x2 0 y p g₀ (omega arith)
+
+  pub rows-end : {y : ℕ} {g : List ℕ} → RowsPainted x1 x2 n y p g₀ g → n ≤ y → g ≡ put (box x1 x2 0 n) p g₀
+  rows-end {y} s l = let e : y ≡ n = omega arith in s .shows ∙ ap (λ (k : ℕ). put (box x1 x2 0 k) p g₀) e

@@ -1,0 +1,10 @@
+pub mod Tests
+pub mod Bits
+pub mod Pictures
+pub mod Painting
+pub mod Intervals
+pub mod Growth
+pub mod Rows
+pub mod Footprint
+pub mod Touch
+pub mod Fit

@@ -1,0 +1,3 @@
+pub mod Framebuffer
+pub mod Regions
+pub mod Footprints

@@ -1,0 +1,47 @@
+use borrow.Author.Needs.{needs}
+use Prim.Native.Nat.{_-_}
+use lib.ListN.{length}
+use Rattle.scroll.proofs.Bytes.{Cleared, cleared-none, cleared-more, cleared-all}
+use Rattle.scroll.proofs.clear.Statement.{statement}
+use Rattle.scroll.proofs.clear.Tie as tie
+
+abbrev Inv-loop : tie.InvT-loop
+Inv-loop fb₀ i₀ fb i = Cleared i fb₀ fb
+
+abbrev μ-loop : tie.MeasureT-loop
+μ-loop fb₀ i₀ fb i = length fb₀ - i
+
+loop-holds : tie.Need-loop-holds Inv-loop μ-loop
+loop-holds c = cleared-none _
+
+slice-write-fb : tie.Need-slice-write-fb Inv-loop μ-loop
+slice-write-fb c = search needs
+
+add-i : tie.Need-add-i Inv-loop μ-loop
+add-i c = search needs
+
+loop-less : tie.Need-loop-less Inv-loop μ-loop
+loop-less c = search needs
+
+loop-again : tie.Need-loop-again Inv-loop μ-loop
+loop-again c = cleared-more (c .before .loop .inv) (search needs)
+
+same-length : tie.Need-same-length Inv-loop μ-loop
+same-length c = search needs
+
+returns : tie.Need-returns Inv-loop μ-loop
+returns c = cleared-all (c .before .loop .inv) (search needs)
+
+pub clear-spec : {M : Type 1} → statement M
+clear-spec =
+    tie.close
+    (tie.spec
+    Inv-loop
+    μ-loop
+    loop-holds
+    slice-write-fb
+    add-i
+    loop-less
+    loop-again
+    same-length
+    returns)
