@@ -5,7 +5,7 @@ use canvas::least;
 use canvas::plot;
 use canvas::rows_between;
 ghost use mathlib.Core.Path.{_≡_};
-ghost use Prim.Native.Nat.{_+_, _*_, _≤_, _<_};
+ghost use Prim.Native.Nat.{_*_, _≤_};
 ghost use Rattle.pixels.specs.Framebuffer.{put};
 ghost use Rattle.pixels.specs.Regions.{span, box};
 ghost use Rattle.bitmap.specs.Inline.{PlaceIs};

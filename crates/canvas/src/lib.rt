@@ -1,8 +1,8 @@
 // Colours, the sizes of the framebuffer, and the painting and reading of single pixels.
 ghost use mathlib.Core.Path.{_≡_};
-ghost use Rattle.pixels.specs.Framebuffer.{cell, fill, black, rowStart, rowsEnd, rowCount};
+ghost use Rattle.pixels.specs.Framebuffer.{cell, fill, black, rowStart};
 ghost use Rattle.pixels.specs.Regions.{point};
-ghost use Rattle.canvas.specs.Colour.{colour, colourOf};
+ghost use Rattle.canvas.specs.Colour.{colourOf};
 ghost use Prim.Native.Nat.{min};
 ghost use Rattle.canvas.specs.Canvas.{paintedOf, masked, RowsAre};
 

@@ -5,7 +5,6 @@ use canvas::least;
 use canvas::plot;
 use canvas::rows_between;
 ghost use mathlib.Core.Path.{_≡_};
-ghost use Prim.Native.Nat.{_+_};
 ghost use Rattle.pixels.specs.Framebuffer.{fill};
 ghost use Rattle.pixels.specs.Regions.{span, box, rectangle};
 ghost use Rattle.rectangle.specs.Frame.{frame};

@@ -5,7 +5,7 @@ use canvas::plot;
 use canvas::rows_between;
 ghost use mathlib.Core.Path.{_≡_};
 ghost use mathlib.Core.Bool.{true};
-ghost use Prim.Native.Nat.{_+_, _≤_, _<_};
+ghost use Prim.Native.Nat.{_≤_, _<_};
 ghost use Rattle.pixels.specs.Framebuffer.{fill, black};
 ghost use Rattle.pixels.specs.Regions.{point};
 ghost use Rattle.strip_chart.specs.Strips.{entering, source, shiftedStrip};

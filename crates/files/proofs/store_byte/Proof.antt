@@ -1,0 +1,41 @@
+use Rattle.files.proofs.Writes.{stored-in, stored-out}
+use borrow.Author.Needs.{needs}
+use Rattle.files.proofs.store_byte.Statement.{statement}
+use Rattle.files.proofs.store_byte.Tie as tie
+
+tally-requires : tie.Need-tally-requires
+tally-requires c κs = search needs
+
+add-at : tie.Need-add-at
+add-at c = search needs
+
+add-at-2 : tie.Need-add-at-2
+add-at-2 c = search needs
+
+slice-write-store : tie.Need-slice-write-store
+slice-write-store c = search needs
+
+same-length : tie.Need-same-length
+same-length c = search needs
+
+returns : tie.Need-returns
+returns c = stored-in (c .before .before .before .before .before .args .store .now) (c .before .before .tally .result) (c .before .before .before .before .before .args .k) (c .before .before .before .before .before .args .byte) (c .before .before .tally .ensures .0)
+
+same-length-2 : tie.Need-same-length-2
+same-length-2 c = search needs
+
+returns-2 : tie.Need-returns-2
+returns-2 c = stored-out (c .before .before .before .before .before .args .store .now) (c .before .before .tally .result) (c .before .before .before .before .before .args .k) (c .before .before .before .before .before .args .byte) (c .before .before .tally .ensures .0) (search needs)
+
+pub store-byte-spec : {M : Type 1} → statement M
+store-byte-spec =
+    tie.close
+    (tie.spec
+    tally-requires
+    add-at
+    add-at-2
+    slice-write-store
+    same-length
+    returns
+    same-length-2
+    returns-2)

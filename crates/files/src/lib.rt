@@ -1,0 +1,120 @@
+// Files put into the store and taken out. Any bytes may be lent, and any number of them.
+use directory::DIRECTORY;
+use directory::Found;
+use directory::find;
+use directory::record_length;
+use directory::tally;
+ghost use mathlib.Core.Path.{_≡_};
+ghost use Prim.Native.Nat.{_+_, _≤_, min};
+ghost use lib.ListN.{length, drop, replicate};
+ghost use lib.Seq.{paste};
+ghost use Rattle.files.specs.Moves.{closed};
+ghost use Rattle.files.specs.Files.{unusedOf, entry, appended, deletes, deleted, purged, storedByte};
+
+// The room of the file area that no file uses.
+pub fn unused(store: &[u8]) -> usize
+    ensures { λ r. ⌜ r ≡ unusedOf (now (store .entry)) ⌝ }
+{
+    let t = tally(store);
+    let top = DIRECTORY + t.used;
+    if top < store.len() {
+        store.len() - top
+    } else {
+        0
+    }
+}
+
+// n bytes from byte `from` on, moved down to byte `to`.
+fn slide(s: &mut [u8], to: usize, from: usize, n: usize)
+    requires { ⌜ (to ≤ from) × (from + n ≤ length (now s)) ⌝ }
+    ensures { λ _. ⌜ now (s .exit) ≡ paste (now (s .entry)) to (drop from (now (s .entry))) n ⌝ }
+{
+    for i in 0..n {
+        s[to + i] = s[from + i];
+    }
+}
+
+// n zeros from byte `at` on.
+fn zero(s: &mut [u8], at: usize, n: usize)
+    requires { ⌜ at + n ≤ length (now s) ⌝ }
+    ensures { λ _. ⌜ now (s .exit) ≡ paste (now (s .entry)) at (replicate n 0) n ⌝ }
+{
+    for i in 0..n {
+        s[at + i] = 0;
+    }
+}
+
+// The record of a new file behind the last, if the directory has room for it.
+pub fn append(store: &mut [u8], kind: u8, number: u8, size: u16)
+    ensures { λ _. ⌜ now (store .exit) ≡ appended (now (store .entry)) (entry kind number size) ⌝ }
+{
+    let t = tally(store);
+    let p = t.end;
+    if DIRECTORY <= store.len() {
+        if p + 4 <= DIRECTORY {
+            store[p] = kind;
+            store[p + 1] = number;
+            store[p + 2] = (size % 256) as u8;
+            store[p + 3] = (size / 256) as u8;
+        }
+    }
+}
+
+// The n bytes of the record at byte `at` of a directory that ends at `end`, and the bytes from `start` to `next` of files that end at `top`, closed over.
+fn close(store: &mut [u8], at: usize, n: usize, end: usize, start: usize, next: usize, top: usize)
+    requires { ⌜ (at + n ≤ end) × (end ≤ start) × (start ≤ next) × (next ≤ top) × (top ≤ length (now store)) ⌝ }
+    ensures { λ _. ⌜ now (store .exit) ≡ closed (now (store .entry)) at n end start next top ⌝ }
+{
+    slide(store, start, next, top - next);
+    let from = at + n;
+    slide(store, at, from, end - from);
+    zero(store, end - n, n);
+}
+
+// The record and the file of this kind and number taken out, later ones moved to close the gap; the answer is whether there was one.
+pub fn delete(store: &mut [u8], kind: u8, number: u8) -> bool
+    ensures { λ r. ⌜ (r ≡ deletes (now (store .entry)) kind number) × (now (store .exit) ≡ deleted (now (store .entry)) kind number) ⌝ }
+{
+    let t = tally(store);
+    let top = DIRECTORY + t.used;
+    if store.len() < top {
+        return false;
+    }
+    let found = find(store, kind, number);
+    let Found::At {
+        record,
+        start,
+        size,
+    } = found
+    else {
+        return false;
+    };
+    let n = record_length(kind);
+    close(store, record, n, t.end, start, start + size, top);
+    true
+}
+
+fn least(a: usize, b: usize) -> usize
+    ensures { λ r. ⌜ r ≡ min a b ⌝ }
+{
+    if a < b { a } else { b }
+}
+
+// No record left; the file area stays.
+pub fn purge(store: &mut [u8])
+    ensures { λ _. ⌜ now (store .exit) ≡ purged (now (store .entry)) ⌝ }
+{
+    let n = least(DIRECTORY, store.len());
+    zero(store, 0, n);
+}
+
+// Byte number k behind the last file; beyond the store nothing.
+pub fn store_byte(store: &mut [u8], k: u16, byte: u8)
+    ensures { λ _. ⌜ now (store .exit) ≡ storedByte (now (store .entry)) k byte ⌝ }
+{
+    let t = tally(store);
+    let at = DIRECTORY + t.used + k as usize;
+    if at < store.len() {
+        store[at] = byte;
+    }
+}
