@@ -40,7 +40,8 @@ pub enum Found {
     Nothing,
 }
 
-fn byte_at(store: &[u8], p: usize) -> u8
+// A lent byte; behind the end all are 0.
+pub fn byte_at(store: &[u8], p: usize) -> u8
     ensures { λ r. ⌜ r ≡ getD (now (store .entry)) p 0 ⌝ }
 {
     if p < store.len() { store[p] } else { 0 }

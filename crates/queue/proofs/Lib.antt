@@ -1,0 +1,11 @@
+pub mod Ways
+pub mod Tables
+pub mod Cases
+pub mod Answers
+pub mod Contents
+pub mod Fifo
+pub mod Lost
+pub mod Signals
+pub mod Round
+pub mod Written
+pub mod Examples

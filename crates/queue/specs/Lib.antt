@@ -1,0 +1,4 @@
+pub mod Watermarks
+pub mod Queue
+pub mod Record
+pub mod History

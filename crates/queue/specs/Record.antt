@@ -1,0 +1,68 @@
+-- The record of a queue, 85 bytes: which byte stands where, reading and writing it, and which records are sound.
+-- Assumes nothing.
+use mathlib.Core.Path.{_≡_}
+use mathlib.Core.Bool.{Bool, cond, _&&_}
+use mathlib.Core.List.{List, [], _∷_, _++_}
+use Prim.Native.Nat.{ℕ, zero, suc, _+_, _*_, _/_, _%_, _<_}
+use lib.Dec.{ltb, leb, eqb}
+use lib.ListN.{length, getD, take, drop}
+use Rattle.queue.specs.declared.Queue.{Queue}
+use Rattle.queue.specs.Queue.{queue}
+
+-- a byte of a record; behind its end there are only zeros
+abbrev pub at : List ℕ → ℕ → ℕ
+at r k = getD r k 0
+
+-- the ring stands at 0 to 79
+abbrev pub placeAt : ℕ
+placeAt = 80
+
+abbrev pub heldAt : ℕ
+heldAt = 81
+
+-- 1: up, 0: down, as any other byte is read
+abbrev pub markAt : ℕ
+markAt = 82
+
+-- the lost count, low byte first
+abbrev pub lostAt : ℕ
+lostAt = 83
+
+abbrev pub lostHighAt : ℕ
+lostHighAt = 84
+
+abbrev pub recordSize : ℕ
+recordSize = 85
+
+-- n bytes from k on
+unfoldable pub bytesFrom : List ℕ → ℕ → ℕ → List ℕ
+bytesFrom r k zero = []
+bytesFrom r k (suc n) = at r k ∷ bytesFrom r (k + 1) n
+
+unfoldable pub decodeOf : List ℕ → Queue
+decodeOf r = queue (bytesFrom r 0 80) (at r placeAt) (at r heldAt) (eqb (at r markAt) 1) (at r lostAt + 256 * at r lostHighAt)
+
+abbrev pub bit : Bool → ℕ
+bit mark = cond mark 1 0
+
+unfoldable pub encodeOf : Queue → List ℕ
+encodeOf q = q .ring ++ (q .place ∷ q .held ∷ bit (q .mark) ∷ q .lost % 256 ∷ q .lost / 256 ∷ [])
+
+-- written over the first bytes of g, as far as g goes; the bytes of g behind the record stay
+unfoldable pub encodedIn : Queue → List ℕ → List ℕ
+encodedIn q g = take (length g) (encodeOf q) ++ drop recordSize g
+
+unfoldable pub soundRecord : List ℕ → Bool
+soundRecord r = eqb (length r) recordSize && ltb (at r placeAt) 80 && leb (at r heldAt) 80 && leb (at r markAt) 1
+
+-- what the types of the program say of a queue
+pub record Fits (q : Queue) : Type 0 where
+  pub size : length (q .ring) ≡ 80
+  pub bytes : (k : ℕ) → at (q .ring) k < 256
+  pub place-fits : q .place < 256
+  pub held-fits : q .held < 256
+  pub lost-fits : q .lost < 65536
+
+-- and of a record
+abbrev pub Bytes : List ℕ → Type 0
+Bytes r = (k : ℕ) → at r k < 256

@@ -1,0 +1,34 @@
+//! Makes checks that run as tests and can also be run by the mutation check.
+
+/// Each check becomes a public function, a test, and an entry of `ALL`.
+#[macro_export]
+macro_rules! checks {
+    ($($(#[$meta:meta])* fn $name:ident() $body:block)*) => {
+        $($(#[$meta])* pub fn $name() $body)*
+
+        pub const ALL: &[(&str, fn())] = &[$((stringify!($name), $name as fn())),*];
+
+        #[cfg(test)]
+        mod tests {
+            $(#[test] fn $name() { super::$name() })*
+        }
+    };
+}
+
+/// The checks of all subjects, by subject and name.
+pub fn all() -> Vec<(String, fn())> {
+    let groups: [(&str, &[(&str, fn())]); 5] = [
+        ("answers", crate::checks_answers::ALL),
+        ("soundness", crate::checks_soundness::ALL),
+        ("flow", crate::checks_flow::ALL),
+        ("store", crate::checks_store::ALL),
+        ("examples", crate::checks_examples::ALL),
+    ];
+    let mut all = Vec::new();
+    for (group, checks) in groups {
+        for &(name, check) in checks {
+            all.push((format!("{group}/{name}"), check));
+        }
+    }
+    all
+}

@@ -1,0 +1,187 @@
+//! How often each command, refusal, answer and signal was reached.
+
+use crate::commands::COMMANDS;
+use crate::coverage_faults::{reason, REASONS};
+use crate::files::Files;
+use crate::glass::on_glass;
+use crate::machine::{Step, Subject};
+use crate::state::{Kind, State};
+use std::collections::BTreeMap;
+
+/// Refusals that can apply together, by command; 0 stands for a character.
+pub const PAIRS: [(u8, u8, u8); 18] = [
+    (103, 19, 20), (103, 19, 17), (103, 19, 18), (103, 20, 17), (103, 20, 18), (103, 17, 18),
+    (106, 19, 17), (106, 19, 18), (106, 17, 18), (105, 19, 21), (107, 19, 21),
+    (36, 25, 24), (94, 25, 24), (71, 22, 17), (71, 23, 17),
+    (0, 22, 29), (0, 23, 29), (0, 28, 29),
+];
+
+/// Every call with the answers it can give.
+pub const ANSWERS: [(&str, &[u8]); 4] =
+    [("start", &[0, 1, 2, 3, 4]), ("feed", &[0, 1, 2, 3, 4, 5]), ("arrive", &[0, 3, 7]), ("take", &[0, 3, 6])];
+
+/// Each refusal that each command can meet; 0 stands for a character, 1 for an upload's bytes.
+pub const REFUSALS: [(u8, &[u8]); 17] = [
+    (33, &[20]), (36, &[24, 25]), (94, &[24, 25]), (49, &[22, 23]), (58, &[27]), (71, &[17, 22, 23]),
+    (98, &[22, 23]), (100, &[18]), (103, &[17, 18, 19, 20]), (105, &[19, 21]), (106, &[17, 18, 19]),
+    (107, &[19, 21]), (114, &[18]), (120, &[18]), (173, &[20, 22]), (0, &[22, 23, 28, 29]), (1, &[26]),
+];
+
+#[derive(Clone, Debug, Default)]
+pub struct Coverage {
+    pub counts: BTreeMap<String, usize>,
+    /// Bytes confirmed to the upload under way.
+    confirmed: usize,
+}
+
+impl Coverage {
+    fn add(&mut self, what: String) {
+        *self.counts.entry(what).or_default() += 1;
+    }
+
+    pub fn answer(&mut self, call: &str, answer: u8) {
+        self.add(format!("answer {answer} of {call}"));
+    }
+
+    pub fn signal(&mut self, call: &str, signal: u8) {
+        self.add(format!("signal {signal} of {call}"));
+    }
+
+    pub fn step(&mut self, step: &Step, files: &Files, state: &State) {
+        let name = match step.subject {
+            Subject::Gathered => return,
+            Subject::Command(code) => format!("command {code:3}"),
+            Subject::UnknownCode(_) => "unknown code".into(),
+            Subject::Character(_) => "character".into(),
+            Subject::InlineByte => "byte in line".into(),
+            Subject::UploadByte => "upload byte echoed".into(),
+            Subject::UploadConfirmed => "upload byte confirmed".into(),
+            Subject::UploadFinished => "upload finished".into(),
+            Subject::UploadBroken => "upload".into(),
+        };
+        match step.outcome {
+            Ok(_) => self.add(format!("{name} done")),
+            Err(refusal) => {
+                self.add(format!("{name} refused {refusal}"));
+                self.add(format!("refusal {refusal}"));
+                self.pairs(step, files, state);
+                if let Some(reason) = reason(step, files, state, self.confirmed) {
+                    self.add(format!("reason {reason}"));
+                }
+            }
+        }
+        self.confirmed = match step.subject {
+            Subject::UploadConfirmed => self.confirmed + 1,
+            Subject::UploadByte => self.confirmed,
+            _ => 0,
+        };
+        if step.scrolled {
+            self.add("character scrolled".into());
+        }
+    }
+
+    fn pairs(&mut self, step: &Step, files: &Files, state: &State) {
+        let a = &step.arguments;
+        let (subject, applying) = match step.subject {
+            Subject::Command(code @ (103 | 105 | 106 | 107 | 36 | 94)) => (code, numbers_applying(code, a, files)),
+            Subject::Command(71) => {
+                let refusal = step.outcome.clone().unwrap_err();
+                (71, if a[0] == 0 || a[1] == 0 { vec![refusal, 17] } else { vec![refusal] })
+            }
+            Subject::Character(_) => {
+                let refusal = step.outcome.clone().unwrap_err();
+                let no_place = state.text.x >= 240 && !state.text.wrap;
+                (0, if no_place { vec![refusal, 29] } else { vec![refusal] })
+            }
+            _ => return,
+        };
+        for (code, first, second) in PAIRS {
+            if code == subject && applying.contains(&first) && applying.contains(&second) {
+                self.add(pair_name(code, first, second));
+            }
+        }
+    }
+
+    /// What should be counted and was not.
+    pub fn missing(&self) -> Vec<String> {
+        let mut wanted = Vec::new();
+        for (code, _) in COMMANDS {
+            wanted.push(format!("command {code:3} done"));
+        }
+        for refusal in 16..=29 {
+            wanted.push(format!("refusal {refusal}"));
+        }
+        for (code, refusals) in REFUSALS {
+            for refusal in refusals {
+                wanted.push(match code {
+                    0 => format!("character refused {refusal}"),
+                    1 => format!("upload refused {refusal}"),
+                    _ => format!("command {code:3} refused {refusal}"),
+                });
+            }
+        }
+        for (call, answers) in ANSWERS {
+            wanted.extend(answers.iter().map(|answer| format!("answer {answer} of {call}")));
+        }
+        for what in ["signal 0 of arrive", "signal 254 of arrive", "signal 0 of take", "signal 255 of take"] {
+            wanted.push(what.into());
+        }
+        for what in ["character done", "character scrolled", "byte in line done", "unknown code refused 16"] {
+            wanted.push(what.into());
+        }
+        for what in ["upload byte echoed done", "upload byte confirmed done", "upload finished done"] {
+            wanted.push(what.into());
+        }
+        wanted.extend(PAIRS.map(|(code, first, second)| pair_name(code, first, second)));
+        wanted.extend(REASONS.map(|reason| format!("reason {reason}")));
+        wanted.retain(|what| !self.counts.contains_key(what));
+        wanted
+    }
+
+    pub fn report(&self) -> String {
+        self.counts.iter().map(|(what, count)| format!("{count:9}  {what}\n")).collect()
+    }
+}
+
+fn pair_name(code: u8, first: u8, second: u8) -> String {
+    match code {
+        0 => format!("pair {first} with {second} of a character"),
+        _ => format!("pair {first} with {second} of command {code:3}"),
+    }
+}
+
+/// Every refusal that applies by itself, whatever comes first.
+fn numbers_applying(code: u8, a: &[u8], files: &Files) -> Vec<u8> {
+    let mut all = Vec::new();
+    match code {
+        103 | 106 => {
+            let c = if code == 103 { &a[2..] } else { &a[1..] };
+            if a[0] > if code == 103 { 15 } else { 7 } {
+                all.push(19);
+            }
+            if code == 103 && a[1] > 3 {
+                all.push(20);
+            }
+            if !on_glass(c[0], c[1]) || !on_glass(c[2], c[3]) {
+                all.push(17);
+            }
+            if c[0] >= c[2] || c[1] >= c[3] {
+                all.push(18);
+            }
+        }
+        105 if a[0] > 15 => all.extend([19, 21]),
+        107 if a[0] & 127 > 7 => all.extend([19, 21]),
+        36 | 94 => {
+            let kind = if code == 36 { Kind::Font } else { Kind::Bitmap };
+            let size = a[1] as usize + 256 * a[2] as usize;
+            if files.find(kind, a[0]).is_some() || (code == 36 && a[0] == 1) {
+                all.push(25);
+            }
+            if size == 0 || size > files.unused() || files.list.len() == 63 {
+                all.push(24);
+            }
+        }
+        _ => {}
+    }
+    all
+}

@@ -1,0 +1,264 @@
+//! Meaningful byte streams, made from a seed.
+//!
+//! The stream is built piece by piece beside a board that obeys it, so that
+//! later pieces can use the bars, files and fonts that earlier ones made.
+
+use crate::board::Board;
+use crate::generator_start::{random_glass, random_queue, random_state, random_store};
+use crate::prng::Prng;
+
+pub const EDGES: [u8; 33] = [
+    0, 1, 2, 3, 4, 7, 8, 9, 14, 15, 16, 31, 32, 39, 40, 41, 62, 63, 64, 65, 79, 80, 126, 127, 128, 135, 136, 238, 239,
+    240, 241, 254, 255,
+];
+
+/// A board to begin with and the bytes to feed it.
+#[derive(Clone, Debug)]
+pub struct Scene {
+    pub seed: u64,
+    pub begin: Board,
+    pub stream: Vec<u8>,
+}
+
+/// A stream from a fresh start on the program's store of 32,768 zero bytes.
+pub fn program_stream(font: &[u8], seed: u64) -> Vec<u8> {
+    stream(&Board::fresh(font, vec![0; 32768]), &mut Prng::new(seed))
+}
+
+/// A stream from a fresh start, on a store of any size with files and leftovers.
+pub fn fresh_scene(font: &[u8], seed: u64) -> Scene {
+    let mut rng = Prng::new(seed);
+    let begin = Board::fresh(font, random_store(&mut rng));
+    let stream = stream(&begin, &mut rng);
+    Scene { seed, begin, stream }
+}
+
+/// A stream from any sound state.
+pub fn any_scene(font: &[u8], seed: u64) -> Scene {
+    let mut rng = Prng::new(seed ^ 0xA5A5_0000);
+    let mut begin = Board::fresh(font, random_store(&mut rng));
+    begin.glass = random_glass(&mut rng);
+    begin.state = random_state(&mut rng, &begin.store);
+    begin.queue = random_queue(&mut rng);
+    let stream = stream(&begin, &mut rng);
+    Scene { seed, begin, stream }
+}
+
+fn stream(begin: &Board, rng: &mut Prng) -> Vec<u8> {
+    let flavour = rng.pick(&[Flavour::Mixed, Flavour::Mixed, Flavour::Bars, Flavour::Text, Flavour::Files]);
+    let mut maker = Maker { board: begin.clone(), rng: rng.clone(), flavour };
+    let mut bytes = Vec::new();
+    for _ in 0..maker.rng.between(20, 120) {
+        let piece = maker.piece();
+        maker.board.feed(&piece, 2 * piece.len());
+        bytes.extend(piece);
+        bytes.extend(maker.leave_long_waits());
+        if maker.rng.percent(1) {
+            // a piece that is broken off somewhere
+            let piece = maker.piece();
+            let part = &piece[..maker.rng.below(piece.len() + 1)];
+            maker.board.feed(part, 2 * part.len());
+            bytes.extend(part);
+        }
+    }
+    if maker.rng.percent(30) {
+        bytes.truncate(maker.rng.below(bytes.len() + 1));
+    }
+    bytes
+}
+
+/// What a stream is mostly about.
+#[derive(Clone, Copy, Debug)]
+enum Flavour {
+    Mixed,
+    Bars,
+    Text,
+    Files,
+}
+
+/// The board that obeys the stream so far, and the random source.
+pub struct Maker {
+    pub board: Board,
+    pub rng: Prng,
+    flavour: Flavour,
+}
+
+impl Maker {
+    pub fn edge(&mut self) -> u8 {
+        if self.rng.percent(70) {
+            self.rng.pick(&EDGES)
+        } else {
+            self.rng.byte()
+        }
+    }
+
+    /// A column, most often on or near the glass.
+    pub fn column(&mut self) -> u8 {
+        match self.rng.below(4) {
+            0 => self.edge(),
+            1 => self.rng.between(228, 245) as u8,
+            _ => self.rng.below(40) as u8,
+        }
+    }
+
+    pub fn row(&mut self) -> u8 {
+        match self.rng.below(4) {
+            0 => self.edge(),
+            1 => self.rng.between(50, 70) as u8,
+            _ => self.rng.below(30) as u8,
+        }
+    }
+
+    /// Two numbers, the first at most the second.
+    pub fn ordered(a: u8, b: u8) -> (u8, u8) {
+        (a.min(b), a.max(b))
+    }
+
+    /// Corners in order, on the glass or reaching beyond it.
+    pub fn corners(&mut self) -> [u8; 4] {
+        let (x1, x2) = Maker::ordered(self.column(), self.column());
+        let (y1, y2) = Maker::ordered(self.row(), self.row());
+        [x1, y1, x2, y2]
+    }
+
+    fn piece(&mut self) -> Vec<u8> {
+        let weights: [usize; 20] = match self.flavour {
+            Flavour::Mixed => [12, 10, 14, 5, 16, 5, 7, 3, 3, 2, 7, 3, 4, 5, 1, 1, 1, 1, 1, 4],
+            Flavour::Bars => [2, 8, 60, 5, 4, 0, 2, 0, 0, 0, 3, 0, 4, 2, 0, 1, 0, 0, 0, 1],
+            Flavour::Text => [2, 2, 3, 1, 50, 12, 10, 4, 1, 0, 10, 2, 1, 4, 1, 1, 0, 0, 1, 2],
+            Flavour::Files => [3, 2, 1, 1, 8, 1, 20, 8, 8, 8, 14, 16, 1, 3, 0, 1, 2, 3, 1, 1],
+        };
+        let mut left = self.rng.below(weights.iter().sum());
+        let mut kind = 0;
+        while left >= weights[kind] {
+            left -= weights[kind];
+            kind += 1;
+        }
+        match kind {
+            0 => self.any_command(),
+            1 => self.drawing(),
+            2 => self.bars(),
+            3 => self.strips(),
+            4 => self.text(),
+            5 => self.metrics(),
+            6 => self.good_upload(),
+            7 => self.bad_upload(),
+            8 => self.broken_upload(),
+            9 => self.refused_upload(),
+            10 => self.use_files(),
+            11 => self.delete(),
+            12 => self.in_line(),
+            13 => self.competing_refusals(),
+            14 => self.noise(),
+            15 => vec![254, self.rng.byte()],
+            16 => self.fill_directory(),
+            17 => self.fill_area(),
+            18 => vec![254, 33, 89, 33],
+            _ => self.settings(),
+        }
+    }
+
+    /// Flow, contrast, backlight and the serial number.
+    fn settings(&mut self) -> Vec<u8> {
+        match self.rng.below(6) {
+            0 => vec![254, 58, self.rng.pick(&[0, 1, 10, 39, 40]), self.rng.pick(&[0, 1, 20, 39])],
+            1 => vec![254, 58, self.rng.pick(&[40, 79, 80, 255]), self.rng.pick(&[0, 1, 40, 80, 255])],
+            2 => vec![254, 59],
+            3 => vec![254, 52, self.edge(), self.edge()],
+            4 => vec![254, 80, self.edge()],
+            _ => vec![254, 66, self.edge(), 254, 70],
+        }
+    }
+
+    /// Any code with its number of arguments, each an edge or anything.
+    fn any_command(&mut self) -> Vec<u8> {
+        let (code, needs) = self.rng.pick(&crate::commands::COMMANDS);
+        let mut bytes = vec![254, code];
+        bytes.extend((0..needs).map(|_| self.edge()));
+        if code == 98 && self.rng.percent(50) {
+            bytes.truncate(3);
+        }
+        bytes
+    }
+
+    fn drawing(&mut self) -> Vec<u8> {
+        let colour = self.rng.pick(&[0, 1, 1, 1, 2, 255]);
+        let [x1, y1, x2, y2] = self.corners();
+        let (x, y) = (self.column(), self.row());
+        match self.rng.below(8) {
+            0 => vec![254, 112, x, y],
+            1 => vec![254, 108, x1, y1, x, y],
+            2 => vec![254, 108, x, y, x1, y1, 254, 101, x2, y2],
+            3 => vec![254, 101, x, y],
+            4 => vec![254, 114, colour, x1, y1, x2, y2],
+            5 => vec![254, 120, colour, x1, y1, x2, y2],
+            6 => vec![254, 99, colour],
+            _ => vec![254, 88],
+        }
+    }
+
+    fn strips(&mut self) -> Vec<u8> {
+        let n = self.rng.below(8) as u8;
+        let direction = self.rng.pick(&[0, 128]);
+        if self.board.state.strips[n as usize].is_some() && self.rng.percent(70) {
+            return vec![254, 107, n | direction];
+        }
+        let x1 = self.rng.below(238) as u8;
+        let y1 = self.rng.below(62) as u8;
+        let x2 = self.rng.between(x1 as usize + 1, 239.min(x1 as usize + 40)) as u8;
+        let y2 = self.rng.between(y1 as usize + 1, 63) as u8;
+        vec![254, 106, n, x1, y1, x2, y2, 254, 107, n | direction]
+    }
+
+    fn metrics(&mut self) -> Vec<u8> {
+        if self.rng.percent(40) {
+            return vec![254, 50, 0, 0, self.rng.below(2) as u8, 1, 64, 254, 67, 254, 81, 254, 72];
+        }
+        let left = self.rng.pick(&[0, 0, 0, 3, 20, 200, 230, 236, 239, 240, 255]);
+        let top = self.rng.pick(&[0, 0, 0, 2, 30, 57, 60, 63, 64, 255]);
+        let space = self.rng.pick(&[0, 0, 1, 2, 9, 255]);
+        let line = self.rng.pick(&[0, 1, 1, 3, 20, 64, 255]);
+        let scroll_row = self.rng.pick(&[64, 64, 64, 0, 16, 32, 63, 65, 71, 200, 255]);
+        let mut bytes = vec![254, 50, left, top, space, line, scroll_row];
+        if self.rng.percent(40) {
+            bytes.extend([254, self.rng.pick(&[72, 88, 72])]);
+        }
+        bytes
+    }
+
+    fn in_line(&mut self) -> Vec<u8> {
+        let (x1, y1) = (self.column(), self.row());
+        let x2 = x1.saturating_add(self.rng.pick(&[0, 1, 6, 7, 8, 9, 15, 16, 23, 30]));
+        let y2 = y1.saturating_add(self.rng.pick(&[0, 0, 1, 2, 5, 9]));
+        let total = (x2 as usize - x1 as usize + 8) / 8 * (y2 as usize - y1 as usize + 1);
+        let mut bytes = vec![254, 100, x1, y1, x2, y2];
+        bytes.extend((0..total).map(|_| self.rng.pick(&[0, 1, 85, 128, 170, 254, 255])));
+        if self.rng.percent(10) {
+            (bytes[2], bytes[4]) = (bytes[4], bytes[2]);
+        }
+        bytes
+    }
+
+    fn noise(&mut self) -> Vec<u8> {
+        let count = self.rng.between(1, 30);
+        (0..count).map(|_| if self.rng.percent(20) { 254 } else { self.rng.byte() }).collect()
+    }
+
+    /// Ends long data in line or a long upload that a chance command began.
+    fn leave_long_waits(&mut self) -> Vec<u8> {
+        let mut bytes = Vec::new();
+        if let Some(inline) = self.board.state.inline {
+            let left = inline.total() - inline.come;
+            if left > 200 {
+                bytes.extend((0..left).map(|_| self.rng.byte()));
+            }
+        }
+        if let Some(upload) = self.board.state.upload {
+            if upload.size - upload.stored > 200 {
+                bytes.extend(if upload.echoed.is_some() { vec![8] } else { vec![8, 8] });
+            }
+        }
+        self.board.feed(&bytes, 2 * bytes.len());
+        bytes
+    }
+}

@@ -1,0 +1,63 @@
+//! The program's listing of what a stream leaves.
+
+use crate::board::Board;
+use crate::glass::{Glass, HEIGHT, WIDTH};
+use crate::mutants::{is, Mutant as M};
+
+pub const REPLIES_SHOWN: usize = 4096;
+
+/// Runs a stream from a fresh start on 32,768 zero bytes and lists the end.
+pub fn listing_of_stream(font: &[u8], stream: &[u8]) -> String {
+    let mut board = Board::fresh(font, vec![0; 32768]);
+    let mut replies = Vec::new();
+    let mut left = stream;
+    while !left.is_empty() {
+        let fed = board.feed(left, 2 * left.len());
+        left = &left[fed.consumed..];
+        replies.extend(fed.replies);
+        if fed.consumed == 0 {
+            break;
+        }
+    }
+    listing(&board.glass, board.state.refusals, board.state.last_refusal, &replies)
+}
+
+pub fn listing(glass: &Glass, refusals: u16, last: u8, replies: &[u8]) -> String {
+    let mut out = String::from("glass 240 64\n");
+    for y in 0..HEIGHT {
+        let runs = runs(glass, y);
+        if !runs.is_empty() || is(M::ListingShowsBlankRows) {
+            out += &format!("{y}: {}\n", runs.join(" "));
+        }
+    }
+    out += &format!("refused {refusals} last {last}\nreplies");
+    let shown = if is(M::ListingShowsAllReplies) { replies.len() } else { REPLIES_SHOWN };
+    for reply in replies.iter().take(shown) {
+        out += &format!(" {reply}");
+    }
+    out.push('\n');
+    out
+}
+
+/// The black runs of a row, first to last column of each.
+fn runs(glass: &Glass, y: usize) -> Vec<String> {
+    let mut runs = Vec::new();
+    let mut x = 0;
+    while x < WIDTH {
+        if !glass.get(x, y) {
+            x += 1;
+            continue;
+        }
+        let first = x;
+        while x + 1 < WIDTH && glass.get(x + 1, y) {
+            x += 1;
+        }
+        if first == x && is(M::ListingLoneDotOnce) {
+            runs.push(format!("{first}"));
+        } else {
+            runs.push(format!("{first}-{x}"));
+        }
+        x += 1;
+    }
+    runs
+}

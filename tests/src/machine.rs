@@ -1,0 +1,126 @@
+//! One byte at a time: an argument, a byte of a picture or a file, or a character.
+
+use crate::commands::arguments;
+use crate::files::Files;
+use crate::footprint::Footprint;
+use crate::glass::Glass;
+use crate::mutants::{is, Mutant as M};
+use crate::state::{Bar, Gathering, Kind, State};
+
+/// What happened to a bar, for the book.
+#[derive(Clone, Copy, Debug, PartialEq, Eq)]
+pub enum BarEvent {
+    SetUp { number: usize, bar: Bar },
+    Write { number: usize, asked: u8 },
+}
+
+/// What a byte did: the thing it finished, if any, and how that ended.
+#[derive(Clone, Debug, PartialEq, Eq)]
+pub struct Step {
+    pub subject: Subject,
+    pub outcome: Result<Footprint, u8>,
+    pub bar: Option<BarEvent>,
+    pub scrolled: bool,
+    /// The arguments of a command that ended here.
+    pub arguments: Vec<u8>,
+}
+
+#[derive(Clone, Copy, Debug, PartialEq, Eq)]
+pub enum Subject {
+    /// 254, or an argument that is not the last.
+    Gathered,
+    Command(u8),
+    UnknownCode(u8),
+    Character(u8),
+    InlineByte,
+    UploadByte,
+    UploadConfirmed,
+    UploadFinished,
+    UploadBroken,
+}
+
+/// Everything a byte may look at or change.
+pub struct Machine<'a> {
+    pub font: &'a [u8],
+    pub glass: &'a mut Glass,
+    pub files: &'a mut Files,
+    pub state: &'a mut State,
+    pub replies: &'a mut Vec<u8>,
+    pub bar_event: Option<BarEvent>,
+    pub scrolled: bool,
+    pub arguments: Vec<u8>,
+}
+
+impl Machine<'_> {
+    pub fn byte(&mut self, byte: u8) -> Step {
+        let (subject, outcome) = if self.state.inline.is_some() {
+            (Subject::InlineByte, Ok(self.inline_byte(byte)))
+        } else if self.state.upload.is_some() {
+            self.upload_byte(byte)
+        } else if self.state.gathering.is_some() {
+            self.gather(byte)
+        } else if byte == 254 {
+            self.state.gathering = Some(Gathering { bytes: Vec::new() });
+            (Subject::Gathered, Ok(Footprint::Nothing))
+        } else {
+            (Subject::Character(byte), self.character(byte))
+        };
+        if let Err(refusal) = outcome {
+            self.refuse(refusal);
+        }
+        Step {
+            subject,
+            outcome,
+            bar: self.bar_event,
+            scrolled: self.scrolled,
+            arguments: std::mem::take(&mut self.arguments),
+        }
+    }
+
+    /// The count rolls over; the last refusal is kept.
+    fn refuse(&mut self, refusal: u8) {
+        self.state.refusals = if is(M::RefusalCountSaturates) {
+            self.state.refusals.saturating_add(1)
+        } else {
+            self.state.refusals.wrapping_add(1)
+        };
+        if is(M::FirstRefusalStays) && self.state.last_refusal != 0 {
+            return;
+        }
+        self.state.last_refusal = refusal;
+    }
+
+    fn gather(&mut self, byte: u8) -> (Subject, Result<Footprint, u8>) {
+        let mut bytes = self.state.gathering.take().unwrap().bytes;
+        if is(M::EscapeRestartsInsideCommand) && byte == 254 && !bytes.is_empty() {
+            self.state.gathering = Some(Gathering { bytes: Vec::new() });
+            return (Subject::Gathered, Ok(Footprint::Nothing));
+        }
+        bytes.push(byte);
+        let code = bytes[0];
+        let Some(needs) = arguments(code) else {
+            if is(M::UnknownCodeAlsoShown) {
+                let _ = self.character(code);
+            }
+            if is(M::SecondEscapeBeginsAnew) && code == 254 {
+                self.state.gathering = Some(Gathering { bytes: Vec::new() });
+                return (Subject::Gathered, Ok(Footprint::Nothing));
+            }
+            return (Subject::UnknownCode(code), Err(16));
+        };
+        let here = bytes.len() - 1;
+        // A saved bitmap that is not there ends the command at its number.
+        if code == 98 && here == 1 && self.files.find(Kind::Bitmap, byte).is_none() && !is(M::MissingBitmapStillTakesPlace) {
+            return (Subject::Command(98), Err(22));
+        }
+        if is(M::PurgeDecidedAtFirstByte) && code == 33 && here == 1 && byte != 89 {
+            return (Subject::Command(33), Err(20));
+        }
+        if here < needs {
+            self.state.gathering = Some(Gathering { bytes });
+            return (Subject::Gathered, Ok(Footprint::Nothing));
+        }
+        self.arguments = bytes[1..].to_vec();
+        (Subject::Command(code), self.obey(code, &bytes[1..]))
+    }
+}

@@ -1,0 +1,211 @@
+//! Wrong versions of single rules. Off unless the feature `mutants` is built in.
+
+macro_rules! mutants {
+    ($($name:ident),* $(,)?) => {
+        #[derive(Clone, Copy, Debug, PartialEq, Eq)]
+        pub enum Mutant { $($name),* }
+        pub const ALL: &[Mutant] = &[$(Mutant::$name),*];
+    };
+}
+
+mutants! {
+    BarLengthOneShort,
+    BarBottomAndTopSwapped,
+    BarLeftAndRightSwapped,
+    BarCornersMayBeEqual,
+    CornerOrderBeforeGlass,
+    BarTypeBeforeNumber,
+    BarNumbersEndAt14,
+    BarGlassBeforeType,
+    BarSetUpWhitens,
+    BarSetUpKeepsValue,
+    NotSetUpBeforeNumber,
+    BarZeroWhitensOldPartOnly,
+    BarWritePaintsWholeRectangle,
+    BarGrowthPaintsFromTheSide,
+    BarShrinkingWhitensTheRest,
+    BarKeepsValueUnheld,
+    StripCornersBeforeNumber,
+    StripNumberTakesAllBits,
+    StripShiftsTheOtherWay,
+    StripShiftsByEight,
+    StripEnteringColumnKept,
+    TextPointOffGlassRefused,
+    HomeIgnoresMargins,
+    ClearLeavesTextPoint,
+    MetricsGoHome,
+    SerialStoredEveryTime,
+    SerialAnsweredOnce,
+    SerialAnswersWhatWasSent,
+    FlowSumEightyAccepted,
+    RefusedFlowTurnsItOff,
+    PixelOffGlassRefused,
+    PixelMovesLineEnd,
+    LineAlwaysBlack,
+    LineEndClipped,
+    LineOnKeepsOldEnd,
+    FrameSidesMovedOntoGlass,
+    SolidOffGlassRefused,
+    SolidNeedsTwoByTwo,
+    SolidUsesDrawingColour,
+    InlineOffGlassRefused,
+    DeleteTypesFromOne,
+    DeletedBitmapResetsFont,
+    DeletedFontStaysCurrent,
+    PurgeKeepsTextSettings,
+    PurgeKeepsTextPoint,
+    PurgeRemovesBars,
+    PurgeRestoresColour,
+    StartWantsSoundRecords,
+    StartLeavesGlass,
+    EmptyPieceUnchecked,
+    StoreBeforeGlass,
+    DirectoryBeforeRecord,
+    ThresholdsUncheckedInRecord,
+    RunningUploadUnchecked,
+    OneReplyByteIsEnough,
+    FiveWithoutByteLeft,
+    DirectoryTailUnchecked,
+    UploadFontOneAllowed,
+    UploadBitmapOneInUse,
+    UploadNumberSharedByKinds,
+    UploadSixtyTwoFilesAtMost,
+    UploadRoomOneShort,
+    UploadRoomAfterOldEnd,
+    UploadRoomBeforeNumber,
+    DeleteMovesLastFileIntoTheGap,
+    DeleteClearsTheTail,
+    PurgeClearsTheFileArea,
+    FontHeightUnlimited,
+    FontNominalZeroAllowed,
+    FontNominalUnlimited,
+    FontWidthUnlimited,
+    FontLastByteUnused,
+    FontGlyphsUnchecked,
+    FontOffsetLowFirst,
+    BitmapMayBeLonger,
+    BitmapRowsStartOnBytes,
+    PackedLowestBitFirst,
+    ScrollStopsAtRow56,
+    ScrollLeavesOldRowsBelow,
+    NonzeroIsBlack,
+    LineFromSmallerEnd,
+    LineRoundsDown,
+    LineHalvesRoundDown,
+    ListingShowsBlankRows,
+    ListingShowsAllReplies,
+    ListingLoneDotOnce,
+    RefusalCountSaturates,
+    FirstRefusalStays,
+    EscapeRestartsInsideCommand,
+    UnknownCodeAlsoShown,
+    SecondEscapeBeginsAnew,
+    MissingBitmapStillTakesPlace,
+    PurgeDecidedAtFirstByte,
+    BitmapMustLieOnGlass,
+    BitmapClearBitsTransparent,
+    BitmapInDrawingColour,
+    InlineInDrawingColour,
+    InlinePackedLikeSaved,
+    InlineClearBitsTransparent,
+    InlineSpareBitsPainted,
+    InlineBytesOnlyForGlass,
+    QueueFullAtSeventyNine,
+    LostCountSaturates,
+    FullQueueOverwrites,
+    FullLooksBeforeTheByte,
+    FullNeedsLessRoom,
+    FullSignalsEveryByte,
+    EmptyLooksBeforeTheTake,
+    EmptyNeedsFewerHeld,
+    EmptySignalsWithoutMark,
+    FlowOffKeepsMark,
+    TextPointSoundTo494,
+    FontUncheckedWhenChosen,
+    PlaceBeforeFont,
+    ColumnStepWithoutSpace,
+    RowStepWithoutSpace,
+    PlaceIgnoresMargins,
+    PlaceMustHoldNominal,
+    NoRoomBeforeOutsideFont,
+    ScrollsBeforeFindingRoom,
+    RefusedCharacterMovesPoint,
+    AdvanceByNominalWidth,
+    AdvanceWithoutSpace,
+    GlyphClearBitsTransparent,
+    GlyphInDrawingColour,
+    WrapsOneColumnEarly,
+    WrapsToColumnZero,
+    ScrollRowItselfTooLow,
+    ScrollRowAgainstTopOfLine,
+    ScrollsByHeightOnly,
+    ScrollAlsoMovesPoint,
+    WrapsToRowZero,
+    UploadSizeHighFirst,
+    UploadRefusedSilently,
+    UploadStoresBeforeConfirmation,
+    UploadAnyNonzeroConfirms,
+    BrokenUploadRepliesEight,
+    BrokenUploadByteReadAfresh,
+    BrokenUploadIsCleared,
+}
+
+/// Whether this rule is to be broken just now.
+#[cfg(not(feature = "mutants"))]
+#[inline(always)]
+pub fn is(_: Mutant) -> bool {
+    false
+}
+
+#[cfg(not(feature = "mutants"))]
+#[inline(always)]
+pub fn note_end(_: usize) {}
+
+#[cfg(not(feature = "mutants"))]
+#[inline(always)]
+pub fn forget_end() {}
+
+#[cfg(not(feature = "mutants"))]
+#[inline(always)]
+pub fn highest_end() -> usize {
+    0
+}
+
+#[cfg(feature = "mutants")]
+pub use switched::*;
+
+#[cfg(feature = "mutants")]
+mod switched {
+    use super::Mutant;
+    use std::cell::Cell;
+
+    thread_local! {
+        static NOW: Cell<Option<Mutant>> = const { Cell::new(None) };
+        static HIGHEST_END: Cell<usize> = const { Cell::new(0) };
+    }
+
+    pub fn is(mutant: Mutant) -> bool {
+        NOW.with(|now| now.get() == Some(mutant))
+    }
+
+    /// Runs something with one rule broken, or with none.
+    pub fn with<T>(mutant: Option<Mutant>, run: impl FnOnce() -> T) -> T {
+        NOW.with(|now| now.set(mutant));
+        let result = run();
+        NOW.with(|now| now.set(None));
+        result
+    }
+
+    /// Only for the wrong version that never gives freed room back.
+    pub fn note_end(end: usize) {
+        HIGHEST_END.with(|highest| highest.set(highest.get().max(end)));
+    }
+
+    pub fn forget_end() {
+        HIGHEST_END.with(|highest| highest.set(0));
+    }
+
+    pub fn highest_end() -> usize {
+        HIGHEST_END.with(Cell::get)
+    }
+}
