@@ -1,0 +1,197 @@
+-- What a good check means: each character of a good font has its glyph inside the file, and a good bitmap is its rows.
+-- Assumes nothing.
+use mathlib.Core.Path.{_≡_, refl}
+use mathlib.Core.List.{List}
+use mathlib.Core.Bool.{Bool, true, false, cond, _&&_}
+use Prim.Native.Nat.{ℕ, zero, suc, _+_, _-_, _*_, _≤_, _<_}
+use native.Mathlib.Omega.{arith}
+use lib.Dec.{ltb, leb, eqb}
+use lib.ListN.{length, drop, length-drop}
+use borrow.Author.Tests.{le-leb, lt-leb, leb-true, ltb-true, eqb-true}
+use Rattle.fonts.specs.declared.Check.{Check}
+use Rattle.fonts.specs.declared.Check.the-variants.{Good, Malformed}
+use Rattle.fonts.specs.declared.Glyph.the-variants.{At, Missing}
+use Rattle.fonts.specs.Checks.{within, checkOf}
+use Rattle.fonts.specs.Bitmaps.{packedBytes, bitmapWidth, bitmapHeight, isBitmap}
+use Rattle.fonts.specs.Fonts.{nominalWidth, heightOf, firstOf, lastOf, countOf, offsetAt, widthAt, isEntry, areEntries, isFont, glyphOf}
+
+and-left : (a b : Bool) → (a && b) ≡ true → a ≡ true
+and-left true b e = refl
+and-left false b e = e
+
+and-right : (a b : Bool) → (a && b) ≡ true → b ≡ true
+and-right true b e = e
+and-right false b e = let z : _≡_ {A = ℕ} 0 1 = cc in absurd (omega arith)
+
+-- what an answer says of the test
+pub good-is : (r : Check) (b : Bool) → r ≡ checkOf b → r ≡ Good → b ≡ true
+good-is r true e h = refl
+good-is r false e h = let z : _≡_ {A = ℕ} 0 1 = cc in absurd (omega arith)
+
+pub malformed-is : (r : Check) (b : Bool) → r ≡ checkOf b → r ≡ Malformed → b ≡ false
+malformed-is r true e h = let z : _≡_ {A = ℕ} 0 1 = cc in absurd (omega arith)
+malformed-is r false e h = refl
+
+pub record Within (a b n : ℕ) : Type 0 where
+  pub from : a ≤ n
+  pub to : n ≤ b
+
+within-is : (a b n : ℕ) → within a b n ≡ true → Within a b n
+unfolding within
+within-is a b n h = record { from = leb-true a n (and-left (leb a n) (leb n b) h); to = leb-true n b (and-right (leb a n) (leb n b) h) }
+
+is-within : (a b n : ℕ) → Within a b n → within a b n ≡ true
+unfolding within
+is-within a b n h = rw (le-leb a n (h .from), le-leb n b (h .to))
+
+-- ---- entries
+
+-- w by h bits from offset o on are inside the file
+pub record Inside (s : List ℕ) (o w : ℕ) : Type 0 where
+  pub width : Within 1 240 w
+  pub ends : o + packedBytes w (heightOf s) ≤ length s
+
+entry-inside : (s : List ℕ) (k : ℕ) → isEntry s k ≡ true → Inside s (offsetAt s k) (widthAt s k)
+unfolding isEntry
+entry-inside s k h =
+    let b = within 1 240 (widthAt s k) in
+    let c = leb (offsetAt s k + packedBytes (widthAt s k) (heightOf s)) (length s) in
+    record {
+      width = within-is 1 240 (widthAt s k) (and-left b c h);
+      ends = leb-true (offsetAt s k + packedBytes (widthAt s k) (heightOf s)) (length s) (and-right b c h);
+    }
+
+entries-each : (n k : ℕ) (s : List ℕ) → areEntries n k s ≡ true → (i : ℕ) → i < n → isEntry s (k + i) ≡ true
+unfolding areEntries
+entries-each zero k s h i l = absurd (omega arith)
+entries-each (suc n) k s h zero l = let e : k + 0 ≡ k = omega arith in rw e (and-left (isEntry s k) (areEntries n (k + 1) s) h)
+entries-each (suc n) k s h (suc i) l =
+    let e : k + suc i ≡ k + 1 + i = omega arith in
+    rw e (entries-each n (k + 1) s (and-right (isEntry s k) (areEntries n (k + 1) s) h) i (omega arith))
+
+-- ---- a good font
+
+pub record Font (m : ℕ) (s : List ℕ) : Type 0 where
+  pub nominal : Within 1 240 (nominalWidth s)
+  pub height : Within 1 m (heightOf s)
+  pub order : firstOf s ≤ lastOf s
+  pub table : 4 + 3 * countOf s ≤ length s
+  pub entries : (k : ℕ) → k < countOf s → Inside s (offsetAt s k) (widthAt s k)
+
+module _ (m : ℕ) (s : List ℕ) (h : isFont m s ≡ true) where
+  pub font : Font m s
+  unfolding isFont
+  font =
+      let a = leb 4 (length s) in
+      let b = within 1 240 (nominalWidth s) in
+      let c = within 1 m (heightOf s) in
+      let d = leb (firstOf s) (lastOf s) in
+      let e = leb (4 + 3 * countOf s) (length s) in
+      let f = areEntries (countOf s) 0 s in
+      let h5 = and-left (a && b && c && d && e) f h in
+      let h4 = and-left (a && b && c && d) e h5 in
+      let h3 = and-left (a && b && c) d h4 in
+      let h2 = and-left (a && b) c h3 in
+      record {
+        nominal = within-is 1 240 (nominalWidth s) (and-right a b h2);
+        height = within-is 1 m (heightOf s) (and-right (a && b) c h3);
+        order = leb-true (firstOf s) (lastOf s) (and-right (a && b && c) d h4);
+        table = leb-true (4 + 3 * countOf s) (length s) (and-right (a && b && c && d) e h5);
+        entries = λ k l. entry-inside s k (rw (zero-plus k) at (entries-each (countOf s) 0 s (and-right (a && b && c && d && e) f h) k l));
+      }
+    where
+      zero-plus : (k : ℕ) → 0 + k ≡ k
+      zero-plus k = omega arith
+
+-- ---- glyphs
+
+-- the characters of a font, and no other, have a glyph
+pub glyph-there : (s : List ℕ) (c : ℕ) → firstOf s ≤ c → c ≤ lastOf s → glyphOf s c ≡ At (offsetAt s (c - firstOf s)) (widthAt s (c - firstOf s))
+unfolding glyphOf
+glyph-there s c h k = rw (le-leb (firstOf s) c h, le-leb c (lastOf s) k)
+
+pub glyph-before : (s : List ℕ) (c : ℕ) → c < firstOf s → glyphOf s c ≡ Missing
+unfolding glyphOf
+glyph-before s c h = rw (lt-leb (firstOf s) c h)
+
+pub glyph-behind : (s : List ℕ) (c : ℕ) → lastOf s < c → glyphOf s c ≡ Missing
+unfolding glyphOf
+glyph-behind s c h = rw (lt-leb c (lastOf s) h) (either (leb (firstOf s) c))
+  where
+    either : (b : Bool) → cond (b && false) (At (offsetAt s (c - firstOf s)) (widthAt s (c - firstOf s))) Missing ≡ Missing
+    either true = refl
+    either false = refl
+
+pub record Character (s : List ℕ) (c o w : ℕ) : Type 0 where
+  pub among : Within (firstOf s) (lastOf s) c
+  pub offset : o ≡ offsetAt s (c - firstOf s)
+  pub width : w ≡ widthAt s (c - firstOf s)
+
+same-offset : {a b o w : ℕ} → At a b ≡ At o w → o ≡ a
+same-offset e = cc
+
+same-width : {a b o w : ℕ} → At a b ≡ At o w → w ≡ b
+same-width e = cc
+
+from-test : (s : List ℕ) (c o w : ℕ) (t : Bool) → (leb (firstOf s) c && leb c (lastOf s)) ≡ t
+    → cond t (At (offsetAt s (c - firstOf s)) (widthAt s (c - firstOf s))) Missing ≡ At o w → Character s c o w
+from-test s c o w true t e =
+    record {
+      among = record {
+        from = leb-true (firstOf s) c (and-left (leb (firstOf s) c) (leb c (lastOf s)) t);
+        to = leb-true c (lastOf s) (and-right (leb (firstOf s) c) (leb c (lastOf s)) t);
+      };
+      offset = same-offset e;
+      width = same-width e;
+    }
+from-test s c o w false t e = let z : _≡_ {A = ℕ} 0 1 = cc in absurd (omega arith)
+
+-- a glyph that is found is that of a character from the first to the last
+pub glyph-of-character : (s : List ℕ) (c o w : ℕ) → glyphOf s c ≡ At o w → Character s c o w
+unfolding glyphOf
+glyph-of-character s c o w e = from-test s c o w (leb (firstOf s) c && leb c (lastOf s)) refl e
+
+-- A GLYPH FOUND IN A GOOD FONT is 1 to 240 wide, and its rows are inside the file
+pub glyph-inside : (m : ℕ) (s : List ℕ) → isFont m s ≡ true → (c o w : ℕ) → glyphOf s c ≡ At o w → Inside s o w
+glyph-inside m s h c o w e =
+    let g = glyph-of-character s c o w e in
+    let a = g .among .from in
+    let b = g .among .to in
+    rw (g .offset, g .width) (font m s h .entries (c - firstOf s) (omega arith))
+
+-- and each of its characters, of which there is one at least, is found
+pub glyph-found : (m : ℕ) (s : List ℕ) → isFont m s ≡ true → (c : ℕ) → firstOf s ≤ c → c ≤ lastOf s
+    → (glyphOf s c ≡ At (offsetAt s (c - firstOf s)) (widthAt s (c - firstOf s))) × Inside s (offsetAt s (c - firstOf s)) (widthAt s (c - firstOf s))
+glyph-found m s h c a b = (glyph-there s c a b, glyph-inside m s h c _ _ (glyph-there s c a b))
+
+-- a good font is one for any taller screen
+pub font-taller : (m n : ℕ) (s : List ℕ) → m ≤ n → isFont m s ≡ true → isFont n s ≡ true
+unfolding isFont
+font-taller m n s l h =
+    let q = font m s h .height in
+    let x : within 1 m (heightOf s) ≡ true = is-within 1 m (heightOf s) q in
+    let y : within 1 n (heightOf s) ≡ true = is-within 1 n (heightOf s) (record { from = q .from; to = omega (arith, q .to) }) in
+    rw y (rw x at h)
+
+-- ---- a good bitmap
+
+pub record Bitmap (s : List ℕ) : Type 0 where
+  pub wide : 0 < bitmapWidth s
+  pub high : 0 < bitmapHeight s
+  pub size : length s ≡ 2 + packedBytes (bitmapWidth s) (bitmapHeight s)
+  -- its rows start at byte 2 and end with the file
+  pub rows : length (drop 2 s) ≡ packedBytes (bitmapWidth s) (bitmapHeight s)
+
+pub bitmap : (s : List ℕ) → isBitmap s ≡ true → Bitmap s
+unfolding isBitmap
+bitmap s h =
+    let a = ltb 0 (bitmapWidth s) in
+    let b = ltb 0 (bitmapHeight s) in
+    let c = eqb (length s) (2 + packedBytes (bitmapWidth s) (bitmapHeight s)) in
+    let z = eqb-true (length s) (2 + packedBytes (bitmapWidth s) (bitmapHeight s)) (and-right (a && b) c h) in
+    record {
+      wide = ltb-true 0 (bitmapWidth s) (and-left a b (and-left (a && b) c h));
+      high = ltb-true 0 (bitmapHeight s) (and-right a b (and-left (a && b) c h));
+      size = z;
+      rows = omega (arith, z, length-drop 2 s);
+    }

@@ -1,0 +1,541 @@
+// Small cases of the store, of fonts and bitmaps in it, and of the queue, printed as lines of text.
+use directory::BITMAP;
+use directory::FONT;
+use directory::Found;
+use directory::byte_at;
+use directory::find;
+use directory::is_valid;
+use directory::tally;
+use files::append;
+use files::delete;
+use files::purge;
+use files::store_byte;
+use files::unused;
+use fonts::Check;
+use fonts::Glyph;
+use fonts::check_bitmap;
+use fonts::check_font;
+use fonts::glyph_of;
+use queue::Flow;
+use queue::Queue;
+use queue::arrive;
+use queue::take;
+ghost use mathlib.Core.Path.{_≡_};
+ghost use lib.ListN.{length};
+
+const STORE: usize = 1024;
+
+fn say(text: &[u8]) {
+    io::write_all(1, text);
+}
+
+fn say_number(n: usize) {
+    io::print_decimal(1, n as u64);
+}
+
+// A name, a number and a line end.
+fn line(name: &[u8], n: usize) {
+    say(name);
+    say_number(n);
+    say(b"\n");
+}
+
+// Bytes `from` up to, and not with, `to`.
+fn show_bytes(name: &[u8], s: &[u8], from: usize, to: usize) {
+    say(name);
+    let mut p = from;
+    while p < to {
+        say(b" ");
+        say_number(byte_at(s, p) as usize);
+        p += 1;
+    }
+    say(b"\n");
+}
+
+// The directory.
+fn show_valid(name: &[u8], s: &[u8]) {
+    say(name);
+    if is_valid(s) {
+        say(b": valid\n");
+    } else {
+        say(b": invalid\n");
+    }
+}
+
+fn show_tally(name: &[u8], s: &[u8]) {
+    let t = tally(s);
+    say(name);
+    say(b": records ");
+    say_number(t.count);
+    say(b", end ");
+    say_number(t.end);
+    say(b", used ");
+    say_number(t.used);
+    say(b"\n");
+}
+
+fn lengths() {
+    let s = [0u8; STORE];
+    show_valid(b"1024 zeros", &s);
+    let least = 256;
+    show_valid(b"256 zeros", &s[..least]);
+    let short = 255;
+    show_valid(b"255 zeros", &s[..short]);
+    let none = 0;
+    show_valid(b"no bytes", &s[..none]);
+    line(b"unused of 1024 zeros: ", unused(&s));
+    line(b"unused of 255 zeros: ", unused(&s[..short]));
+}
+
+fn ends() {
+    let mut s = [0u8; STORE];
+    append(&mut s, BITMAP, 5, 10);
+    show_tally(b"bitmap 5 of 10 bytes", &s);
+    show_valid(b"bitmap 5 of 10 bytes", &s);
+    s[8] = BITMAP;
+    s[9] = 6;
+    s[10] = 10;
+    show_tally(b"kind 0, then a record", &s);
+    show_valid(b"kind 0, then a record", &s);
+}
+
+fn garbage() {
+    let mut s = [0u8; STORE];
+    append(&mut s, FONT, 2, 10);
+    s[255] = 1;
+    show_tally(b"byte 255 is 1", &s);
+    show_valid(b"byte 255 is 1", &s);
+    s[255] = 0;
+    s[256] = 1;
+    show_valid(b"byte 256 is 1", &s);
+}
+
+fn unknown_kind() {
+    let mut s = [0u8; STORE];
+    append(&mut s, BITMAP, 5, 10);
+    append(&mut s, 3, 5, 10);
+    show_tally(b"a record of kind 3", &s);
+    show_valid(b"a record of kind 3", &s);
+}
+
+// Bitmaps 1 to n, of a byte each.
+fn append_all(s: &mut [u8], n: u8) {
+    let mut k = 0;
+    while k < n {
+        k += 1;
+        append(s, BITMAP, k, 1);
+    }
+}
+
+fn counts() {
+    let mut s = [0u8; STORE];
+    append_all(&mut s, 63);
+    show_tally(b"63 bitmaps", &s);
+    show_valid(b"63 bitmaps", &s);
+    append(&mut s, BITMAP, 64, 1);
+    show_tally(b"64 bitmaps", &s);
+    show_valid(b"64 bitmaps", &s);
+    append(&mut s, BITMAP, 65, 1);
+    show_tally(b"a record that would end behind byte 256", &s);
+    show_bytes(b"bytes 252 to 259:", &s, 252, 260);
+}
+
+fn numbers() {
+    let mut s = [0u8; STORE];
+    append(&mut s, BITMAP, 1, 10);
+    show_valid(b"bitmap 1", &s);
+    append(&mut s, FONT, 2, 10);
+    append(&mut s, BITMAP, 2, 10);
+    show_valid(b"font 2 and bitmap 2", &s);
+    append(&mut s, FONT, 2, 20);
+    show_valid(b"font 2 twice", &s);
+    let mut t = [0u8; STORE];
+    append(&mut t, FONT, 1, 10);
+    show_valid(b"font 1", &t);
+}
+
+fn sizes() {
+    let mut s = [0u8; STORE];
+    append(&mut s, BITMAP, 5, 768);
+    show_valid(b"768 bytes of 768", &s);
+    let mut t = [0u8; STORE];
+    append(&mut t, BITMAP, 5, 400);
+    append(&mut t, BITMAP, 6, 368);
+    show_valid(b"400 and 368 bytes of 768", &t);
+    line(b"unused: ", unused(&t));
+    append(&mut t, BITMAP, 7, 1);
+    show_valid(b"and one more", &t);
+    line(b"unused: ", unused(&t));
+    let mut u = [0u8; STORE];
+    append(&mut u, BITMAP, 5, 0);
+    show_valid(b"size 0", &u);
+}
+
+fn show_found(name: &[u8], s: &[u8], kind: u8, number: u8) {
+    let found = find(s, kind, number);
+    say(name);
+    match found {
+        Found::Nothing => say(b": nothing\n"),
+        Found::At {
+            record,
+            start,
+            size,
+        } => {
+            say(b": record ");
+            say_number(record);
+            say(b", start ");
+            say_number(start);
+            say(b", size ");
+            say_number(size);
+            say(b"\n");
+        }
+    }
+}
+
+fn finds() {
+    let mut s = [0u8; STORE];
+    append(&mut s, FONT, 2, 300);
+    append(&mut s, BITMAP, 5, 10);
+    append(&mut s, BITMAP, 2, 458);
+    show_bytes(b"directory:", &s, 0, 16);
+    show_found(b"font 2", &s, FONT, 2);
+    show_found(b"bitmap 5", &s, BITMAP, 5);
+    show_found(b"bitmap 2", &s, BITMAP, 2);
+    show_found(b"font 5", &s, FONT, 5);
+    show_found(b"bitmap 0", &s, BITMAP, 0);
+}
+
+// Files.
+fn show_store(s: &[u8]) {
+    show_bytes(b"directory:", s, 0, 16);
+    show_bytes(b"area:", s, 256, 268);
+    line(b"unused: ", unused(s));
+}
+
+// Each byte goes behind the last file, and the record comes after them.
+fn put_bitmap_1(s: &mut [u8]) {
+    store_byte(s, 0, 11);
+    store_byte(s, 1, 12);
+    append(s, BITMAP, 1, 2);
+}
+
+fn put_font_2(s: &mut [u8]) {
+    store_byte(s, 0, 21);
+    store_byte(s, 1, 22);
+    store_byte(s, 2, 23);
+    append(s, FONT, 2, 3);
+}
+
+fn put_bitmap_3(s: &mut [u8]) {
+    store_byte(s, 0, 31);
+    store_byte(s, 1, 32);
+    store_byte(s, 2, 33);
+    store_byte(s, 3, 34);
+    append(s, BITMAP, 3, 4);
+}
+
+fn show_delete(s: &mut [u8], kind: u8, number: u8) {
+    if delete(s, kind, number) {
+        say(b"deleted\n");
+    } else {
+        say(b"no such file\n");
+    }
+}
+
+fn deletes() {
+    let mut s = [0u8; STORE];
+    put_bitmap_1(&mut s);
+    put_font_2(&mut s);
+    put_bitmap_3(&mut s);
+    say(b"three files\n");
+    show_store(&s);
+    say(b"font 2: ");
+    show_delete(&mut s, FONT, 2);
+    show_store(&s);
+    say(b"font 2: ");
+    show_delete(&mut s, FONT, 2);
+    show_store(&s);
+    say(b"byte 99 behind them\n");
+    store_byte(&mut s, 0, 99);
+    show_store(&s);
+    say(b"byte 98 at 761, byte 97 at 762\n");
+    store_byte(&mut s, 761, 98);
+    store_byte(&mut s, 762, 97);
+    show_bytes(b"bytes 1022 and 1023:", &s, 1022, 1024);
+    say(b"purged\n");
+    purge(&mut s);
+    show_store(&s);
+}
+
+// Fonts and bitmaps.
+fn show_check(name: &[u8], c: Check) {
+    say(name);
+    match c {
+        Check::Good => say(b": good\n"),
+        Check::Malformed => say(b": malformed\n"),
+    }
+}
+
+// Characters 65 and 66, 5 high: 3 wide at 10 and 4 wide at 12.
+fn small_font() -> [u8; 15]
+    ensures { λ r. ⌜ 15 ≡ length r ⌝ }
+{
+    [
+        3,
+        5,
+        65,
+        66,
+        0,
+        10,
+        3,
+        0,
+        12,
+        4,
+        0x57,
+        0xda,
+        0x74,
+        0x63,
+        0x1f,
+    ]
+}
+
+fn good_fonts() {
+    let mut f = small_font();
+    show_check(b"a font for 64 rows", check_font(&f, 64));
+    show_check(b"for 5 rows", check_font(&f, 5));
+    show_check(b"for 4 rows", check_font(&f, 4));
+    f[0] = 240;
+    show_check(b"nominal width 240", check_font(&f, 64));
+}
+
+fn glyph_places() {
+    let mut f = small_font();
+    f[5] = 0;
+    show_check(b"a glyph at 0", check_font(&f, 64));
+    f[5] = 13;
+    show_check(b"a glyph of 2 bytes at 13", check_font(&f, 64));
+    f[5] = 14;
+    show_check(b"a glyph of 2 bytes at 14", check_font(&f, 64));
+}
+
+// The first n bytes of a font.
+fn show_cut(name: &[u8], f: &[u8], n: usize) {
+    if n <= f.len() {
+        show_check(name, check_font(&f[..n], 64));
+    }
+}
+
+fn bad_headers() {
+    let whole = small_font();
+    show_cut(b"three bytes of a font", &whole, 3);
+    let mut f = small_font();
+    f[0] = 0;
+    show_check(b"nominal width 0", check_font(&f, 64));
+    f[0] = 241;
+    show_check(b"nominal width 241", check_font(&f, 64));
+    let mut g = small_font();
+    g[1] = 0;
+    show_check(b"height 0", check_font(&g, 64));
+    let mut h = small_font();
+    h[2] = 67;
+    show_check(b"first 67, last 66", check_font(&h, 64));
+    h[2] = 66;
+    show_check(b"first 66, last 66", check_font(&h, 64));
+}
+
+fn bad_entries() {
+    let whole = small_font();
+    show_cut(b"without its last byte", &whole, 14);
+    show_cut(b"without the end of its table", &whole, 9);
+    let mut f = small_font();
+    f[3] = 255;
+    show_check(b"last 255", check_font(&f, 64));
+    let mut g = small_font();
+    g[6] = 0;
+    show_check(b"a glyph 0 wide", check_font(&g, 64));
+    let mut h = small_font();
+    h[4] = 1;
+    show_check(b"a glyph at 266", check_font(&h, 64));
+}
+
+// One character, in a file with room for it.
+fn large_glyphs() {
+    let mut f = [0u8; 64];
+    f[0] = 1;
+    f[1] = 64;
+    f[2] = 65;
+    f[3] = 65;
+    f[6] = 1;
+    show_check(b"height 64", check_font(&f, 64));
+    f[1] = 65;
+    show_check(b"height 65", check_font(&f, 64));
+    f[1] = 1;
+    f[6] = 240;
+    show_check(b"a glyph 240 wide", check_font(&f, 64));
+    f[6] = 241;
+    show_check(b"a glyph 241 wide", check_font(&f, 64));
+}
+
+fn show_glyph(name: &[u8], f: &[u8], character: u8) {
+    let found = glyph_of(f, character);
+    say(name);
+    match found {
+        Glyph::Missing => say(b": missing\n"),
+        Glyph::At { offset, width } => {
+            say(b": at ");
+            say_number(offset);
+            say(b", width ");
+            say_number(width as usize);
+            say(b"\n");
+        }
+    }
+}
+
+fn glyphs() {
+    let f = small_font();
+    show_glyph(b"character 64", &f, 64);
+    show_glyph(b"character 65", &f, 65);
+    show_glyph(b"character 66", &f, 66);
+    show_glyph(b"character 67", &f, 67);
+}
+
+fn bitmaps() {
+    let b = [5, 4, 0xfc, 0x63, 0xf0, 0];
+    let exact = 5;
+    show_check(b"5 by 4 in 3 bytes", check_bitmap(&b[..exact]));
+    let short = 4;
+    show_check(b"in 2 bytes", check_bitmap(&b[..short]));
+    show_check(b"in 4 bytes", check_bitmap(&b));
+    let narrow = [0, 4];
+    show_check(b"0 by 4 in no bytes", check_bitmap(&narrow));
+    let flat = [5, 0];
+    show_check(b"5 by 0 in no bytes", check_bitmap(&flat));
+    let none = 0;
+    show_check(b"no file", check_bitmap(&b[..none]));
+}
+
+// The queue, with signals at 40 bytes free and at 39 bytes held.
+fn flow() -> Flow {
+    Flow {
+        on: true,
+        full: 40,
+        empty: 39,
+    }
+}
+
+fn queue_at(place: u8, held: u8, lost: u16) -> Queue {
+    Queue {
+        ring: [0; 80],
+        place: place,
+        held: held,
+        mark: false,
+        lost: lost,
+    }
+}
+
+fn put(q: Queue, byte: u8) -> Queue {
+    let a = arrive(q, flow(), byte);
+    say(b"put ");
+    say_number(byte as usize);
+    line(b": answer ", a.answer as usize);
+    a.queue
+}
+
+fn get(q: Queue) -> Queue {
+    let t = take(q, flow());
+    say(b"get: answer ");
+    say_number(t.answer as usize);
+    line(b", byte ", t.byte as usize);
+    t.queue
+}
+
+fn wraps() {
+    say(b"a ring from place 79\n");
+    let q = queue_at(79, 0, 0);
+    let q = get(q);
+    let q = put(q, 1);
+    let q = put(q, 2);
+    let q = get(q);
+    let q = put(q, 3);
+    let q = get(q);
+    let q = get(q);
+    let q = get(q);
+    line(b"place ", q.place as usize);
+}
+
+// n bytes put, and the signals among them.
+fn fill(from: Queue, n: u8) -> Queue {
+    let mut q = from;
+    let mut k = 0;
+    while k < n {
+        k += 1;
+        let a = arrive(q, flow(), k);
+        if a.signal != 0 {
+            say(b"byte ");
+            say_number(k as usize);
+            line(b" sends ", a.signal as usize);
+        }
+        let next = a.queue;
+        q = next;
+    }
+    q
+}
+
+fn drain(from: Queue, n: u8) -> Queue {
+    let mut q = from;
+    let mut k = 0;
+    while k < n {
+        k += 1;
+        let t = take(q, flow());
+        if t.signal != 0 {
+            say(b"take ");
+            say_number(k as usize);
+            line(b" sends ", t.signal as usize);
+        }
+        let next = t.queue;
+        q = next;
+    }
+    q
+}
+
+fn signals() {
+    say(b"80 bytes put\n");
+    let q = fill(queue_at(0, 0, 0), 80);
+    line(b"held ", q.held as usize);
+    let q = put(q, 81);
+    line(b"lost ", q.lost as usize);
+    say(b"80 bytes taken\n");
+    let q = drain(q, 80);
+    line(b"held ", q.held as usize);
+    let q = get(q);
+    line(b"lost ", q.lost as usize);
+}
+
+fn losses() {
+    say(b"a full queue that lost 65535\n");
+    let q = put(queue_at(0, 80, 65535), 1);
+    line(b"lost ", q.lost as usize);
+    line(b"held ", q.held as usize);
+}
+
+fn main() {
+    lengths();
+    ends();
+    garbage();
+    unknown_kind();
+    counts();
+    numbers();
+    sizes();
+    finds();
+    deletes();
+    good_fonts();
+    glyph_places();
+    bad_headers();
+    bad_entries();
+    large_glyphs();
+    glyphs();
+    bitmaps();
+    wraps();
+    signals();
+    losses();
+}
