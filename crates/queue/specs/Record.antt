@@ -20,7 +20,7 @@ placeAt = 80
 abbrev pub heldAt : ℕ
 heldAt = 81
 
--- 1: up, 0: down, as any other byte is read
+-- 1: up, 0: down; other bytes are not sound
 abbrev pub markAt : ℕ
 markAt = 82
 

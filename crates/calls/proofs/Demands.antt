@@ -1,0 +1,248 @@
+-- WHAT IS PROMISED OF A LIST OF CALLS, in memory as a caller lends it.
+-- Assumes nothing.
+use mathlib.Core.Path.{_≡_, refl, sym, ap, _∙_, subst}
+use mathlib.Core.List.{List, []}
+use mathlib.Core.Bool.{Bool, true, false, cond, not, _&&_, _||_, true≢false}
+use Prim.Native.Nat.{ℕ, zero, suc, _+_, _/_, _%_, _<_}
+use native.Mathlib.Omega.{arith}
+use lib.Dec.{eqb}
+use lib.ListN.{length, getD, replicate, length-replicate}
+use borrow.Author.Tests.{eq-eqb, eqb-true}
+use Rattle.pixels.specs.Framebuffer.{height}
+use Rattle.bar_ledger.specs.Claim.{Agrees}
+use Rattle.directory.specs.Directory.{validOf}
+use Rattle.state.specs.declared.Phase.{Phase}
+use Rattle.state.specs.declared.Phase.the-variants.{Idle, Prefix, Gathering, Inline, Upload}
+use Rattle.state.specs.declared.Refusals.{Refusals}
+use Rattle.state.specs.declared.State.{State}
+use Rattle.state.specs.State.{startState}
+use Rattle.state.specs.Soundness.{soundState}
+use Rattle.queue.specs.Record as queue-record
+use Rattle.record.specs.Layout.{recordSize}
+use Rattle.record.specs.Fits.{Fits}
+use Rattle.record.specs.Reading.{decodeOf}
+use Rattle.record.specs.Writing.{encodeOf}
+use Rattle.record.specs.Record.{soundRecord}
+use Rattle.record.proofs.Bytes.{decoded-fits}
+use Rattle.record.proofs.Round.{decode-encode, encode-decode, encoded-sound, passed}
+use Rattle.rules.specs.World.{World, world, port}
+use Rattle.rules.specs.Files.{inUse, noRoom}
+use Rattle.rules.specs.Step.{step}
+use Rattle.rules.specs.Calls.{run, said}
+use Rattle.rules.specs.Events.{view, event}
+use Rattle.rules.specs.History.{refusedOf, lastOf}
+use Rattle.rules.specs.Chunks.{Chunk, joined, EnoughAll}
+use Rattle.rules.specs.Sound.{Bytes, Welcome, Good}
+use Rattle.rules.proofs.ByByte.{demand-3}
+use Rattle.rules.proofs.Counts.{refusal-count, last-refusal}
+use Rattle.rules.proofs.GoodByte.{good-step, good-start, screen-length, store-length}
+use Rattle.calls.specs.Memory.{screenBytes, Memory, storeFits, uploadRefused, checked, loaded, saved}
+use Rattle.calls.specs.Feed.{fed, feedOf}
+use Rattle.calls.specs.Start.{startChecked, startOf}
+use Rattle.calls.specs.List.{Call, afterAll, consumedAll, sentAll, pieces}
+use Rattle.calls.proofs.Bridge.{fits, port-fits, panel-fits}
+use Rattle.calls.proofs.Lists.{BytesInAll, streamed, consumed-whole}
+
+-- ---- worlds that every check passes
+
+pub record Kept (w : World) : Type 0 where
+  pub good : Good w
+  pub screen : length (w .screen) ≡ 1920
+  pub store : storeFits (w .store) ≡ true
+
+kept-step : (w : World) (b : ℕ) → Kept w → b < 256 → Kept (step w b)
+kept-step w b k h =
+    record {
+      good = good-step w b (k .good) h;
+      screen = screen-length w b (k .good) ∙ k .screen;
+      store = rw (store-length w b (k .good) h) (k .store);
+    }
+
+state-fits : (w : World) → Good w → Fits (w .state)
+state-fits w g = fits (w .state) (g .port-fits) (g .panel-fits)
+
+back : (w : World) → Kept w → decodeOf (encodeOf (w .state)) ≡ w .state
+back w k = decode-encode (w .state) (state-fits w (k .good))
+
+record-sound : (w : World) → Kept w → soundRecord 64 (encodeOf (w .state)) ≡ true
+unfolding height
+record-sound w k =
+    encoded-sound 64 (w .state) (state-fits w (k .good)) (subst (λ (n : ℕ). soundState (n / 30) (w .state) ≡ true) (k .screen) (k .good .sound))
+
+both-false : (a b : Bool) → a ≡ false → b ≡ false → (a || b) ≡ false
+both-false true b e f = e
+both-false false b e f = f
+
+welcome-passes : (f : Phase) (s : List ℕ) → Welcome f s → uploadRefused s f ≡ false
+welcome-passes Idle s h = refl
+welcome-passes Prefix s h = refl
+welcome-passes (Gathering c g) s h = refl
+welcome-passes (Inline x1 y1 x2 y2 d) s h = refl
+welcome-passes (Upload k n z t v c) s h = both-false (inUse s k n) (noRoom s z) (h .0) (h .1)
+
+pass : (w : World) → Kept w → checked (saved w) ≡ 0
+unfolding checked
+pass w k =
+    let d = back w k in
+    let u = welcome-passes (w .state .port .phase) (w .store) (k .good .upload) in
+    rw (eq-eqb (length (w .screen)) 1920 (k .screen), k .store, record-sound w k, k .good .store .valid, d, u)
+
+-- ---- memory that passes the checks is such a world, written
+
+-- every byte lent is a byte
+pub record ByteMemory (m : Memory) : Type 0 where
+  pub screen : Bytes (m .screen)
+  pub store : Bytes (m .store)
+  pub state : Bytes (m .state)
+
+never : (k : ℕ) → suc k ≡ 0 → ⊥
+never k e = omega (arith, e)
+
+-- a check that did not answer
+unanswered : (t : Bool) (k r : ℕ) → cond (not t) (suc k) r ≡ 0 → (t ≡ true) × (r ≡ 0)
+unanswered true k r e = (refl, e)
+unanswered false k r e = absurd (never k e)
+
+neither : (v u : Bool) → (not v || u) ≡ false → (v ≡ true) × (u ≡ false)
+neither true u e = (refl, e)
+neither false u e = absurd (true≢false e)
+
+last-check : (t : Bool) (k : ℕ) → cond t (suc k) 0 ≡ 0 → t ≡ false
+last-check true k e = absurd (never k e)
+last-check false k e = refl
+
+pub record Checks (m : Memory) : Type 0 where
+  pub screen : length (m .screen) ≡ 1920
+  pub store : storeFits (m .store) ≡ true
+  pub state : soundRecord 64 (m .state) ≡ true
+  pub valid : validOf (m .store) ≡ true
+  pub upload : uploadRefused (m .store) (decodeOf (m .state) .port .phase) ≡ false
+
+checks : (m : Memory) → checked m ≡ 0 → Checks m
+unfolding checked
+checks m e =
+    let a = unanswered (eqb (length (m .screen)) 1920) 0 _ e in
+    let b = unanswered (storeFits (m .store)) 1 _ (a .1) in
+    let c = unanswered (soundRecord 64 (m .state)) 2 _ (b .1) in
+    let d = neither (validOf (m .store)) _ (last-check _ 3 (c .1)) in
+    record { screen = eqb-true (length (m .screen)) 1920 (a .0); store = b .0; state = c .0; valid = d .0; upload = d .1 }
+
+neither-use : (a b : Bool) → (a || b) ≡ false → (a ≡ false) × (b ≡ false)
+neither-use true b e = absurd (true≢false e)
+neither-use false b e = (refl, e)
+
+passes-welcome : (f : Phase) (s : List ℕ) → uploadRefused s f ≡ false → Welcome f s
+passes-welcome Idle s h = tt
+passes-welcome Prefix s h = tt
+passes-welcome (Gathering c g) s h = tt
+passes-welcome (Inline x1 y1 x2 y2 d) s h = tt
+passes-welcome (Upload k n z t v c) s h = neither-use (inUse s k n) (noRoom s z) h
+
+pub checked-kept : (m : Memory) → ByteMemory m → checked m ≡ 0 → Kept (loaded m)
+unfolding height
+checked-kept m b e =
+    let c = checks m e in
+    let f = decoded-fits (m .state) (b .state) in
+    let p = passed 64 (m .state) (c .state) .sound in
+    record {
+      good = record {
+        sound = subst (λ (n : ℕ). soundState (n / 30) (decodeOf (m .state)) ≡ true) (sym (c .screen)) p;
+        port-fits = port-fits (decodeOf (m .state)) f;
+        panel-fits = panel-fits (decodeOf (m .state)) f;
+        store = record { bytes = b .store; valid = c .valid };
+        screen = record { bytes = b .screen; low = omega (arith, c .screen) };
+        upload = passes-welcome (decodeOf (m .state) .port .phase) (m .store) (c .upload);
+      };
+      screen = c .screen;
+      store = c .store;
+    }
+
+pub saved-loaded : (m : Memory) → checked m ≡ 0 → saved (loaded m) ≡ m
+saved-loaded m e = rw (encode-decode 64 (m .state) (checks m e .state))
+
+-- ---- any list of calls
+
+-- WHAT HOLDS AFTER A LIST OF CALLS
+pub record Served (m : Memory) (cs : List Call) : Type 0 where
+  -- the memory is what the bytes consumed leave, and what was sent is what they send: one stream, however it was cut
+  pub stream : afterAll m cs ≡ saved (run (loaded m) (consumedAll m cs))
+  pub sent : sentAll m cs ≡ said (loaded m) (consumedAll m cs)
+  -- demand 3, after them all and after every byte
+  pub bars : Agrees view step event (loaded m) (consumedAll m cs)
+  -- the history of refusals
+  pub count : decodeOf (afterAll m cs .state) .port .refusals .count ≡ (port (loaded m) .refusals .count + refusedOf (loaded m) (consumedAll m cs)) % 65536
+  pub last : decodeOf (afterAll m cs .state) .port .refusals .last ≡ lastOf (loaded m) (consumedAll m cs) (port (loaded m) .refusals .last)
+  -- the next call passes the checks again
+  pub again : checked (afterAll m cs) ≡ 0
+
+served-saved : (w : World) (cs : List Call) → Kept w → BytesInAll cs → Served (saved w) cs
+served-saved w cs k h =
+    let s = streamed Kept kept-step back pass w cs k h in
+    let d = back w k in
+    let l = consumedAll (saved w) cs in
+    let v = run w l in
+    let z = k .good .panel-fits .sixteen in
+    let c = k .good .port-fits .refusals .count in
+    let e = ap (λ (m : Memory). decodeOf (m .state) .port .refusals) (s .left) ∙ ap (λ (t : State). t .port .refusals) (back v (s .kept)) in
+    record {
+      stream = rw d (s .left);
+      sent = rw d (s .sent);
+      bars = rw d (demand-3 w z l);
+      count = rw d (ap (λ (r : Refusals). r .count) e ∙ refusal-count w l z c);
+      last = rw d (ap (λ (r : Refusals). r .last) e ∙ last-refusal w l z c);
+      again = ap checked (s .left) ∙ pass v (s .kept);
+    }
+
+-- THE THEOREM, from any memory that passes the checks
+pub calls-served : (m : Memory) (cs : List Call) → ByteMemory m → checked m ≡ 0 → BytesInAll cs → Served m cs
+calls-served m cs b e h = subst (λ (n : Memory). Served n cs) (saved-loaded m e) (served-saved (loaded m) cs (checked-kept m b e) h)
+
+-- DEMAND 2: with two free reply bytes before each byte the pieces are consumed whole
+whole-saved : (w : World) (ps : List Chunk) → Kept w → BytesInAll (pieces ps) → EnoughAll w ps → consumedAll (saved w) (pieces ps) ≡ joined ps
+whole-saved w ps k h e = consumed-whole Kept kept-step back pass w ps k h e
+
+pub pieces-whole : (m : Memory) (ps : List Chunk) → ByteMemory m → checked m ≡ 0 → BytesInAll (pieces ps) → EnoughAll (loaded m) ps
+    → consumedAll m (pieces ps) ≡ joined ps
+pieces-whole m ps b e h t =
+    subst (λ (n : Memory). consumedAll n (pieces ps) ≡ joined ps) (saved-loaded m e) (whole-saved (loaded m) ps (checked-kept m b e) h t)
+
+-- a piece refused with 1 to 4 alters nothing, consumes nothing and sends nothing
+pub refused-untouched : (m : Memory) (p : List ℕ) (room : ℕ) → eqb (checked m) 0 ≡ false → feedOf m p room ≡ fed m (checked m) 0 []
+unfolding feedOf
+refused-untouched m p room e = rw e
+
+-- one that passes answers 0 where it is consumed whole, and 5 where it is not
+pub passed-answers : (m : Memory) (p : List ℕ) (room : ℕ) → checked m ≡ 0 → feedOf m p room .answer ≡ cond (eqb (feedOf m p room .consumed) (length p)) 0 5
+unfolding feedOf
+passed-answers m p room e = rw e
+
+-- ---- the start
+
+zeros : (n i : ℕ) → getD (replicate n 0) i 0 < 256
+zeros zero i = omega arith
+zeros (suc n) zero = omega arith
+zeros (suc n) (suc i) = zeros n i
+
+pub record StartChecks (m : Memory) (q : List ℕ) : Type 0 where
+  pub store : storeFits (m .store) ≡ true
+  pub valid : validOf (m .store) ≡ true
+
+start-checks : (m : Memory) (q : List ℕ) → startChecked m q ≡ 0 → StartChecks m q
+unfolding startChecked
+start-checks m q e =
+    let a = unanswered (eqb (length (m .screen)) 1920) 0 _ e in
+    let b = unanswered (storeFits (m .store)) 1 _ (a .1) in
+    let c = unanswered (eqb (length (m .state)) recordSize && eqb (length q) queue-record.recordSize) 2 _ (b .1) in
+    record { store = b .0; valid = unanswered (validOf (m .store)) 3 0 (c .1) .0 }
+
+-- after a start that answers 0 every check passes, and the world is the start's
+pub start-passes : (m : Memory) (q : List ℕ) → Bytes (m .store) → startChecked m q ≡ 0
+    → (checked (startOf m q .left) ≡ 0) × (loaded (startOf m q .left) ≡ world (replicate screenBytes 0) (m .store) (startState 64))
+unfolding startOf
+start-passes m q b e =
+    let c = start-checks m q e in
+    let g : List ℕ = replicate 1920 0 in
+    let w = world g (m .store) (startState 64) in
+    let n : length g ≡ 1920 = length-replicate {A = ℕ} 1920 0 in
+    let k : Kept w = record { good = good-start 64 g (m .store) n (omega arith) (zeros 1920) b (c .valid); screen = n; store = c .store } in
+    rw e (pass w k, rw (back w k))

@@ -1,0 +1,5 @@
+pub mod Examples
+pub mod Lists
+pub mod Bridge
+pub mod Demands
+pub mod LineCalls

@@ -1,0 +1,5 @@
+pub mod Memory
+pub mod Feed
+pub mod Start
+pub mod Line
+pub mod List

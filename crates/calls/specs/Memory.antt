@@ -1,0 +1,57 @@
+-- The memory that a call is lent, and the checks that it makes first, in their order.
+-- Assumes nothing.
+use mathlib.Core.List.{List}
+use mathlib.Core.Bool.{Bool, false, cond, not, _&&_, _||_}
+use Prim.Native.Nat.{ℕ}
+use lib.Dec.{eqb, leb}
+use lib.ListN.{length}
+use Rattle.directory.specs.Directory.{validOf}
+use Rattle.state.specs.declared.Phase.{Phase}
+use Rattle.state.specs.declared.Phase.the-variants.{Idle, Prefix, Gathering, Inline, Upload}
+use Rattle.record.specs.Reading.{decodeOf}
+use Rattle.record.specs.Writing.{encodeOf}
+use Rattle.record.specs.Record.{soundRecord}
+use Rattle.rules.specs.World.{World, world}
+use Rattle.rules.specs.Files.{inUse, noRoom}
+
+-- the screen's rows, and its bytes
+abbrev pub screenRows : ℕ
+screenRows = 64
+
+abbrev pub screenBytes : ℕ
+screenBytes = 1920
+
+abbrev pub storeFits : List ℕ → Bool
+storeFits s = leb 1024 (length s) && leb (length s) 32768
+
+-- the screen, the store and the state record
+pub record Memory : Type 0 where
+  pub screen : List ℕ
+  pub store : List ℕ
+  pub state : List ℕ
+
+abbrev pub memory : List ℕ → List ℕ → List ℕ → Memory
+memory g s r = record { screen = g; store = s; state = r }
+
+-- an upload under way would now get 25 or 24
+abbrev pub uploadRefused : List ℕ → Phase → Bool
+uploadRefused s Idle = false
+uploadRefused s Prefix = false
+uploadRefused s (Gathering c g) = false
+uploadRefused s (Inline x1 y1 x2 y2 d) = false
+uploadRefused s (Upload k n z t v c) = inUse s k n || noRoom s z
+
+-- THE CHECKS OF A PIECE: the answer 1 to 4 that it is refused with, or 0
+unfoldable pub checked : Memory → ℕ
+checked m =
+    cond (not (eqb (length (m .screen)) screenBytes)) 1
+    (cond (not (storeFits (m .store))) 2
+    (cond (not (soundRecord screenRows (m .state))) 3
+    (cond (not (validOf (m .store)) || uploadRefused (m .store) (decodeOf (m .state) .port .phase)) 4 0)))
+
+-- memory read, and a world written back
+abbrev pub loaded : Memory → World
+loaded m = world (m .screen) (m .store) (decodeOf (m .state))
+
+abbrev pub saved : World → Memory
+saved w = memory (w .screen) (w .store) (encodeOf (w .state))

@@ -1,0 +1,11 @@
+pub mod Windows
+pub mod Filling
+pub mod Overwriting
+pub mod Ways
+pub mod Same
+pub mod Whole
+pub mod Deciding
+pub mod Back
+pub mod Bytes
+pub mod Round
+pub mod Written

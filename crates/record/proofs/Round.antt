@@ -1,0 +1,164 @@
+-- A record and its state are one thing, both ways, and a record is sound exactly when it is that of a sound state.
+-- Assumes nothing.
+use mathlib.Core.Path.{_≡_, refl, sym, ap, _∙_}
+use mathlib.Core.Logic.{_↔_}
+use mathlib.Core.Bool.{true, _&&_}
+use mathlib.Core.List.{List}
+use Prim.Native.Nat.{ℕ, zero, suc, _+_, _*_, _<_}
+use lib.Dec.{eqb, lit<}
+use lib.ListN.{length, replicate}
+use lib.Seq.{getD-drop}
+use borrow.Author.Tests.{eq-eqb, eqb-true}
+use Rattle.queue.specs.Record.{at, Bytes}
+use Rattle.queue.specs.declared.Flow.{Flow}
+use Rattle.state.specs.declared.Refusals.{Refusals}
+use Rattle.state.specs.declared.Backlight.{Backlight}
+use Rattle.state.specs.declared.State.{State}
+use Rattle.state.specs.State.{noBar, noStrip, startState}
+use Rattle.state.specs.Soundness.{soundState}
+use Rattle.state.proofs.Start.{start-sound}
+use Rattle.record.specs.Layout.{flowAt, flowFullAt, flowEmptyAt, refusalsAt, lastRefusalAt, contrastAt, backlightAt, minutesAt}
+use Rattle.record.specs.Reading.{pairAt, flagAt, portOf, panelOf, decodeOf}
+use Rattle.record.specs.Writing.{encodeOf}
+use Rattle.record.specs.Record.{encodedIn, sameBytes, soundRecord}
+use Rattle.record.specs.Fits.{All, FitsSlot, FitsStrip, Fits}
+use Rattle.record.proofs.Same.{both, same-refl, same-equal}
+use Rattle.record.proofs.Whole.{Sized, length-sized, written-whole}
+use Rattle.record.proofs.Back.{phase-read, arguments-read, text-read, drawing-read, flow-read, refusals-read}
+use Rattle.record.proofs.Back.{bars-read, strips-read, serial-read, contrast-read, backlight-read}
+use Rattle.record.proofs.Bytes.{decoded-fits, encoded-bytes}
+
+pub sized : (s : State) → Fits s → Sized s
+sized s f = record { args = f .port-fits .args-size; bars = f .panel-fits .bars-size; strips = f .panel-fits .strips-size }
+
+-- ---- what is written
+
+pub length-encode : (s : State) → Fits s → length (encodeOf s) ≡ 201
+length-encode s f = length-sized s (sized s f)
+
+pub bytes-encode : (s : State) → Fits s → Bytes (encodeOf s)
+bytes-encode s f = encoded-bytes s f
+
+-- in a slice of just that size
+pub encoded-whole : (s : State) (g : List ℕ) → Fits s → length g ≡ 201 → encodedIn s g ≡ encodeOf s
+encoded-whole s g f e = written-whole s g (sized s f) e
+
+-- ---- both ways
+
+-- READING WHAT WAS WRITTEN
+pub decode-encode : (s : State) → Fits s → decodeOf (encodeOf s) ≡ s
+unfolding decodeOf portOf panelOf
+decode-encode s f =
+    let z = sized s f in
+    rw (
+      phase-read s z,
+      arguments-read s z,
+      text-read s z,
+      drawing-read s z,
+      flow-read s z,
+      refusals-read s z,
+      bars-read s z,
+      strips-read s z,
+      serial-read s z,
+      contrast-read s z,
+      backlight-read s z,
+    )
+
+pub record Passed (h : ℕ) (r : List ℕ) : Type 0 where
+  pub long : length r ≡ 201
+  pub sound : soundState h (decodeOf r) ≡ true
+  pub again : encodeOf (decodeOf r) ≡ r
+
+pub passed : (h : ℕ) (r : List ℕ) → soundRecord h r ≡ true → Passed h r
+unfolding soundRecord
+passed h r e =
+    let a = both (eqb (length r) 201 && soundState h (decodeOf r)) (sameBytes (encodeOf (decodeOf r)) r) e in
+    let b = both (eqb (length r) 201) (soundState h (decodeOf r)) (a .0) in
+    record { long = eqb-true (length r) 201 (b .0); sound = b .1; again = same-equal (encodeOf (decodeOf r)) r (a .1) }
+
+pub passes : (h : ℕ) (r : List ℕ) → Passed h r → soundRecord h r ≡ true
+unfolding soundRecord
+passes h r p = rw (eq-eqb (length r) 201 (p .long), p .sound, p .again) (same-refl r)
+
+-- WRITING WHAT WAS READ
+pub encode-decode : (h : ℕ) (r : List ℕ) → soundRecord h r ≡ true → encodeOf (decodeOf r) ≡ r
+encode-decode h r e = passed h r e .again
+
+-- ---- sound both ways
+
+pub encoded-sound : (h : ℕ) (s : State) → Fits s → soundState h s ≡ true → soundRecord h (encodeOf s) ≡ true
+encoded-sound h s f e =
+    let d = decode-encode s f in
+    passes h (encodeOf s) (record { long = length-encode s f; sound = ap (soundState h) d ∙ e; again = ap encodeOf d })
+
+-- A RECORD OF BYTES IS SOUND EXACTLY WHEN IT IS THAT OF A SOUND STATE
+pub sound-exactly : (h : ℕ) (r : List ℕ) → Bytes r → (soundRecord h r ≡ true) ↔ ((s : State) × Fits s × (soundState h s ≡ true) × (encodeOf s ≡ r))
+sound-exactly h r b = (
+  λ e. (decodeOf r, decoded-fits r b, passed h r e .sound, encode-decode h r e),
+  λ w. rw (← w .3) (encoded-sound h (w .0) (w .1) (w .2)),
+)
+
+-- ---- the start, and what a board shows
+
+blank-bars : (n : ℕ) → All FitsSlot (replicate n noBar)
+blank-bars zero = tt
+blank-bars (suc n) = ((lit< tt, (lit< tt, (lit< tt, (lit< tt, (lit< tt, (lit< tt, tt)))))), blank-bars n)
+
+blank-strips : (n : ℕ) → All FitsStrip (replicate n noStrip)
+blank-strips zero = tt
+blank-strips (suc n) = ((lit< tt, (lit< tt, (lit< tt, (lit< tt, tt)))), blank-strips n)
+
+pub start-fits : (h : ℕ) → h < 256 → Fits (startState h)
+start-fits h l =
+    let z : 0 < 256 = lit< tt in
+    let o : 1 < 256 = lit< tt in
+    record {
+      port-fits =
+          record {
+            phase-fits = tt;
+            args-size = refl;
+            args-fit = (z, (z, (z, (z, (z, (z, tt))))));
+            text-fits = record { x-fits = lit< tt; others = (o, (z, (z, (z, (z, (o, (l, tt))))))) };
+            count-fits = lit< tt;
+            others = (z, (z, (z, (z, (z, tt)))));
+          };
+      panel-fits =
+          record {
+            bars-size = refl;
+            bars-fit = blank-bars 16;
+            strips-size = refl;
+            strips-fit = blank-strips 8;
+            others = (z, (z, (lit< tt, (z, tt))));
+          };
+    }
+
+pub start-record : (h : ℕ) → h < 256 → soundRecord h (encodeOf (startState h)) ≡ true
+start-record h l = encoded-sound h (startState h) (start-fits h l) (start-sound h)
+
+pub record Shown (s : State) (r : List ℕ) : Type 0 where
+  pub contrast : at r contrastAt ≡ s .panel .contrast
+  pub backlight : flagAt r backlightAt ≡ s .panel .backlight .on
+  pub minutes : at r minutesAt ≡ s .panel .backlight .minutes
+  pub count : pairAt r refusalsAt ≡ s .port .refusals .count
+  pub last : at r lastRefusalAt ≡ s .port .refusals .last
+  pub flow : flagAt r flowAt ≡ s .port .flow .on
+  pub full : at r flowFullAt ≡ s .port .flow .full
+  pub empty : at r flowEmptyAt ≡ s .port .flow .empty
+
+cong-pair : {a b c d : ℕ} → a ≡ b → c ≡ d → a + 256 * c ≡ b + 256 * d
+cong-pair e f = rw (e, f)
+
+pub shown : (s : State) → Fits s → Shown s (encodeOf s)
+shown s f =
+    let z = sized s f in
+    let r = encodeOf s in
+    record {
+      contrast = contrast-read s z;
+      backlight = sym (ap (λ (n : ℕ). eqb n 1) (getD-drop 199 r 0 0)) ∙ ap (λ (b : Backlight). b .on) (backlight-read s z);
+      minutes = sym (getD-drop 199 r 1 0) ∙ ap (λ (b : Backlight). b .minutes) (backlight-read s z);
+      count = sym (cong-pair (getD-drop 40 r 0 0) (getD-drop 40 r 1 0)) ∙ ap (λ (n : Refusals). n .count) (refusals-read s z);
+      last = sym (getD-drop 40 r 2 0) ∙ ap (λ (n : Refusals). n .last) (refusals-read s z);
+      flow = sym (ap (λ (n : ℕ). eqb n 1) (getD-drop 37 r 0 0)) ∙ ap (λ (w : Flow). w .on) (flow-read s z);
+      full = sym (getD-drop 37 r 1 0) ∙ ap (λ (w : Flow). w .full) (flow-read s z);
+      empty = sym (getD-drop 37 r 2 0) ∙ ap (λ (w : Flow). w .empty) (flow-read s z);
+    }

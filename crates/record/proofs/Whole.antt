@@ -1,0 +1,122 @@
+-- The parts of a record put together: lengths, and what the writing of part after part comes to.
+-- Assumes nothing.
+use mathlib.Core.Path.{_≡_, refl, sym, ap, _∙_}
+use mathlib.Core.List.{List, _++_, append-nil}
+use Prim.Native.Nat.{ℕ, _+_}
+use native.Mathlib.Omega.{arith}
+use lib.ListN.{length, take, drop, length-append, drop-of-length-le}
+use lib.Seq.{take-all}
+use Rattle.state.specs.declared.Phase.{Phase}
+use Rattle.state.specs.declared.Phase.the-variants.{Idle, Prefix, Gathering, Inline, Upload}
+use Rattle.state.specs.declared.Port.{Port}
+use Rattle.state.specs.declared.Panel.{Panel}
+use Rattle.state.specs.declared.State.{State}
+use Rattle.record.specs.Writing.{manyBytes, gatheringBytes, dataBytes, uploadBytes, textBytes, otherBytes, phaseBytes, portBytes}
+use Rattle.record.specs.Writing.{slotBytes, stripBytes, lastBytes, panelBytes, encodeOf, over}
+use Rattle.record.specs.Record.{encodedIn}
+use Rattle.record.proofs.Overwriting.{over-next, over-front, length-manyBytes}
+
+-- ---- lengths
+
+pub length-gathering : (p : Phase) → length (gatheringBytes p) ≡ 3
+length-gathering Idle = refl
+length-gathering Prefix = refl
+length-gathering (Gathering c g) = refl
+length-gathering (Inline x1 y1 x2 y2 d) = refl
+length-gathering (Upload k n z s w b) = refl
+
+pub length-data : (p : Phase) → length (dataBytes p) ≡ 6
+length-data Idle = refl
+length-data Prefix = refl
+length-data (Gathering c g) = refl
+length-data (Inline x1 y1 x2 y2 d) = refl
+length-data (Upload k n z s w b) = refl
+
+pub length-upload : (p : Phase) → length (uploadBytes p) ≡ 8
+length-upload Idle = refl
+length-upload Prefix = refl
+length-upload (Gathering c g) = refl
+length-upload (Inline x1 y1 x2 y2 d) = refl
+length-upload (Upload k n z s w b) = refl
+
+-- a part, and what follows it
+part : (l m : List ℕ) (a b : ℕ) → length l ≡ a → length m ≡ b → length (l ++ m) ≡ a + b
+part l m a b e f = length-append l m ∙ rw (e, f)
+
+-- the arrays of the program
+pub record Sized (s : State) : Type 0 where
+  pub args : length (s .port .args) ≡ 6
+  pub bars : length (s .panel .bars) ≡ 16
+  pub strips : length (s .panel .strips) ≡ 8
+
+pub length-phase : (p : Port) → length (p .args) ≡ 6 → length (phaseBytes p) ≡ 23
+unfolding phaseBytes
+length-phase p e =
+    part (gatheringBytes (p .phase)) _ 3 20 (length-gathering (p .phase))
+    (part (p .args) _ 6 14 e
+    (part (dataBytes (p .phase)) _ 6 8 (length-data (p .phase)) (length-upload (p .phase))))
+
+pub length-port : (p : Port) → length (p .args) ≡ 6 → length (portBytes p) ≡ 43
+unfolding portBytes
+length-port p e = part (phaseBytes p) _ 23 20 (length-phase p e) refl
+
+pub length-bars : (q : Panel) → length (q .bars) ≡ 16 → length (manyBytes slotBytes (q .bars)) ≡ 112
+length-bars q e = length-manyBytes slotBytes 7 (λ a. refl) (q .bars) ∙ rw e
+
+pub length-strips : (q : Panel) → length (q .strips) ≡ 8 → length (manyBytes stripBytes (q .strips)) ≡ 40
+length-strips q e = length-manyBytes stripBytes 5 (λ a. refl) (q .strips) ∙ rw e
+
+pub length-panel : (q : Panel) → length (q .bars) ≡ 16 → length (q .strips) ≡ 8 → length (panelBytes q) ≡ 158
+unfolding panelBytes
+length-panel q e f = part (manyBytes slotBytes (q .bars)) _ 112 46 (length-bars q e) (part (manyBytes stripBytes (q .strips)) _ 40 6 (length-strips q f) refl)
+
+pub length-sized : (s : State) → Sized s → length (encodeOf s) ≡ 201
+unfolding encodeOf
+length-sized s z = part (portBytes (s .port)) _ 43 158 (length-port (s .port) (z .args)) (length-panel (s .panel) (z .bars) (z .strips))
+
+-- ---- part after part
+
+same-over : (l m : List ℕ) (k : ℕ) (g h : List ℕ) → l ≡ m → h ≡ over l k g → h ≡ over m k g
+same-over l m k g h e f = f ∙ ap (λ (x : List ℕ). over x k g) e
+
+pub phase-written : (p : Port) (g g1 g2 g3 g4 a c d : List ℕ) → length (p .args) ≡ 6 → a ≡ gatheringBytes (p .phase) → g1 ≡ over a 0 g → g2 ≡ over (p .args) 3 g1
+    → c ≡ dataBytes (p .phase) → g3 ≡ over c 9 g2 → d ≡ uploadBytes (p .phase) → g4 ≡ over d 15 g3 → g4 ≡ over (phaseBytes p) 0 g
+unfolding phaseBytes
+phase-written p g g1 g2 g3 g4 a c d s ea e1 e2 ec e3 ed e4 =
+    let middle = dataBytes (p .phase) in
+    let rest = uploadBytes (p .phase) in
+    sym (over-next (gatheringBytes (p .phase)) (p .args ++ (middle ++ rest)) 0 3 g g1 (length-gathering (p .phase)) (same-over a _ 0 g g1 ea e1)
+    ∙ over-next (p .args) (middle ++ rest) 3 6 g1 g2 s e2
+    ∙ over-next middle rest 9 6 g2 g3 (length-data (p .phase)) (same-over c _ 9 g2 g3 ec e3)
+    ∙ sym (same-over d _ 15 g3 g4 ed e4))
+
+pub port-written : (p : Port) (g g1 g2 g3 t o : List ℕ) → length (p .args) ≡ 6 → g1 ≡ over (phaseBytes p) 0 g → t ≡ textBytes (p .text) → g2 ≡ over t 23 g1
+    → o ≡ otherBytes p → g3 ≡ over o 34 g2 → g3 ≡ over (portBytes p) 0 g
+unfolding portBytes
+port-written p g g1 g2 g3 t o s e1 et e2 eo e3 =
+    sym (over-next (phaseBytes p) (textBytes (p .text) ++ otherBytes p) 0 23 g g1 (length-phase p s) e1
+    ∙ over-next (textBytes (p .text)) (otherBytes p) 23 11 g1 g2 refl (same-over t _ 23 g1 g2 et e2)
+    ∙ sym (same-over o _ 34 g2 g3 eo e3))
+
+pub panel-written : (q : Panel) (g g1 g2 g3 l : List ℕ) → length (q .bars) ≡ 16 → length (q .strips) ≡ 8 → g1 ≡ over (manyBytes slotBytes (q .bars)) 43 g
+    → g2 ≡ over (manyBytes stripBytes (q .strips)) 155 g1 → l ≡ lastBytes q → g3 ≡ over l 195 g2 → g3 ≡ over (panelBytes q) 43 g
+unfolding panelBytes
+panel-written q g g1 g2 g3 l s z e1 e2 el e3 =
+    sym (over-next (manyBytes slotBytes (q .bars)) (manyBytes stripBytes (q .strips) ++ lastBytes q) 43 112 g g1 (length-bars q s) e1
+    ∙ over-next (manyBytes stripBytes (q .strips)) (lastBytes q) 155 40 g1 g2 (length-strips q z) e2
+    ∙ sym (same-over l _ 195 g2 g3 el e3))
+
+all-written : (s : State) (g : List ℕ) → Sized s → over (portBytes (s .port) ++ panelBytes (s .panel)) 0 g ≡ encodedIn s g
+unfolding encodeOf encodedIn
+all-written s g z = over-front (encodeOf s) g ∙ ap (λ (n : ℕ). take (length g) (encodeOf s) ++ drop n g) (length-sized s z)
+
+pub state-written : (s : State) (g g1 g2 : List ℕ) → Sized s → g1 ≡ over (portBytes (s .port)) 0 g → g2 ≡ over (panelBytes (s .panel)) 43 g1 → g2 ≡ encodedIn s g
+state-written s g g1 g2 z e1 e2 =
+    e2 ∙ sym (over-next (portBytes (s .port)) (panelBytes (s .panel)) 0 43 g g1 (length-port (s .port) (z .args)) e1) ∙ all-written s g z
+
+-- ---- a slice of just that size
+
+pub written-whole : (s : State) (g : List ℕ) → Sized s → length g ≡ 201 → encodedIn s g ≡ encodeOf s
+unfolding encodedIn
+written-whole s g z e =
+    rw (take-all (length g) (encodeOf s) (omega (arith, length-sized s z)), drop-of-length-le g {i = 201} (omega arith)) (append-nil (encodeOf s))

@@ -1,0 +1,77 @@
+-- Each part, read from the eleven bytes that the code takes from its place on.
+-- Assumes nothing.
+use mathlib.Core.Path.{_≡_, sym, ap, _∙_}
+use mathlib.Core.List.{List, [], _∷_}
+use Prim.Native.Nat.{ℕ, _+_, _*_, _<_, _≤_}
+use native.Mathlib.Omega.{arith}
+use lib.Dec.{eqb}
+use lib.ListN.{length, drop, List·getD-eq-default}
+use lib.Seq.{getD-drop}
+use Rattle.queue.specs.Record.{at, bytesFrom}
+use Rattle.queue.proofs.Tables.{at-bytesFrom}
+use Rattle.state.specs.declared.Phase.the-variants.{Inline, Upload}
+use Rattle.record.specs.Reading.{inlineOf, uploadOf, argumentsIn, textOf, drawingOf, flowOf, refusalsOf, slotOf, stripOf, serialOf, backlightOf}
+
+pub at-end : (r : List ℕ) (k : ℕ) → length r ≤ k → 0 ≡ at r k
+at-end r k h = sym (List·getD-eq-default r 0 {n = k} h)
+
+pub window-byte : (r : List ℕ) (k i b : ℕ) → i < 11 → b ≡ at r (k + i) → b ≡ at (bytesFrom (drop k r) 0 11) i
+window-byte r k i b h e =
+    let z : 0 + i ≡ i = omega arith in
+    e ∙ sym (at-bytesFrom (drop k r) 0 11 i h ∙ ap (at (drop k r)) z ∙ getD-drop k r i 0)
+
+module _ (l w : List ℕ) (e : w ≡ bytesFrom l 0 11) where
+  pub inline-is : (d : ℕ) → d ≡ at w 4 + 256 * at w 5 → Inline (at w 0) (at w 1) (at w 2) (at w 3) d ≡ inlineOf l
+  unfolding bytesFrom
+  inline-is d f = rw (f, e)
+
+  pub upload-is : (z s : ℕ) → z ≡ at w 2 + 256 * at w 3 → s ≡ at w 4 + 256 * at w 5 → Upload (at w 0) (at w 1) z s (eqb (at w 6) 1) (at w 7) ≡ uploadOf l
+  unfolding bytesFrom
+  upload-is z s f g = rw (f, g, e)
+
+  pub arguments-are : (at w 0 ∷ at w 1 ∷ at w 2 ∷ at w 3 ∷ at w 4 ∷ at w 5 ∷ []) ≡ argumentsIn l
+  unfolding bytesFrom
+  arguments-are = rw e
+
+  pub text-is : (x : ℕ) → x ≡ at w 1 + 256 * at w 2 → record {
+    font = at w 0;
+    x = x;
+    y = at w 3;
+    left = at w 4;
+    top = at w 5;
+    «char_space» = at w 6;
+    «line_space» = at w 7;
+    «scroll_row» = at w 8;
+    wrap = eqb (at w 9) 1;
+    scroll = eqb (at w 10) 1;
+  } ≡ textOf l
+  unfolding bytesFrom
+  text-is x f = rw (f, e)
+
+  pub drawing-is : drawingOf w ≡ drawingOf l
+  unfolding bytesFrom
+  drawing-is = rw e
+
+  pub flow-is : flowOf w ≡ flowOf l
+  unfolding bytesFrom
+  flow-is = rw e
+
+  pub refusals-are : (n : ℕ) → n ≡ at w 0 + 256 * at w 1 → record { count = n; last = at w 2 } ≡ refusalsOf l
+  unfolding bytesFrom
+  refusals-are n f = rw (f, e)
+
+  pub slot-is : slotOf w ≡ slotOf l
+  unfolding bytesFrom
+  slot-is = rw e
+
+  pub strip-is : stripOf w ≡ stripOf l
+  unfolding bytesFrom
+  strip-is = rw e
+
+  pub serial-is : serialOf w ≡ serialOf l
+  unfolding bytesFrom
+  serial-is = rw e
+
+  pub backlight-is : backlightOf w ≡ backlightOf l
+  unfolding bytesFrom
+  backlight-is = rw e

@@ -1,0 +1,56 @@
+-- `part_at` meets its contract.
+-- Assumes nothing.
+use Prim.Native.Nat.{_-_}
+use native.Mathlib.Omega.{arith}
+use lib.ListN.{drop}
+use borrow.Author.Needs.{needs}
+use Rattle.queue.specs.Record.{bytesFrom}
+use Rattle.queue.proofs.Tables.{Over, over-start, over-step, over-whole, length-bytesFrom}
+use Rattle.record.proofs.Windows.{window-byte}
+use Rattle.record.proofs.reading.part_at.Statement.{statement}
+use Rattle.record.proofs.reading.part_at.Tie as tie
+
+abbrev Inv-loop : tie.InvT-loop
+Inv-loop r k l₀ i₀ l i = Over (bytesFrom (drop k r) 0 11) l₀ l 11 i
+
+abbrev μ-loop : tie.MeasureT-loop
+μ-loop r k l₀ i₀ l i = 11 - i
+
+loop-holds : tie.Need-loop-holds Inv-loop μ-loop
+loop-holds c = over-start (omega (arith, length-bytesFrom (drop (c .before .args .k) (c .before .args .r .now)) 0 11)) (search needs)
+
+add-byte-at : tie.Need-add-byte-at Inv-loop μ-loop
+add-byte-at c = search needs
+
+byte-at-requires : tie.Need-byte-at-requires Inv-loop μ-loop
+byte-at-requires c κs = search needs
+
+array-write-l : tie.Need-array-write-l Inv-loop μ-loop
+array-write-l c = search needs
+
+add-i : tie.Need-add-i Inv-loop μ-loop
+add-i c = search needs
+
+loop-less : tie.Need-loop-less Inv-loop μ-loop
+loop-less c = search needs
+
+loop-again : tie.Need-loop-again Inv-loop μ-loop
+loop-again c = over-step (c .before .before .loop .inv) (search needs) (window-byte (c .before .before .before .before .args .r .now) (c .before .before .before .before .args .k) (c .before .before .loop .i) _ (search needs) (c .byte-at .ensures))
+
+returns : tie.Need-returns Inv-loop μ-loop
+returns c = over-whole (c .before .loop .inv) (search needs) (length-bytesFrom _ 0 11) (search needs)
+
+pub part-at-spec : {M : Type 1} → statement M
+part-at-spec =
+    tie.close
+    (tie.spec
+    Inv-loop
+    μ-loop
+    loop-holds
+    add-byte-at
+    byte-at-requires
+    array-write-l
+    add-i
+    loop-less
+    loop-again
+    returns)

@@ -1,0 +1,39 @@
+-- `strip_at` meets its contract.
+-- Assumes nothing.
+use borrow.Author.Needs.{needs}
+use Rattle.record.proofs.Windows.{strip-is}
+use Rattle.record.proofs.reading.strip_at.Statement.{statement}
+use Rattle.record.proofs.reading.strip_at.Tie as tie
+
+part-at-requires : tie.Need-part-at-requires
+part-at-requires c κs = search needs
+
+array-read-t7 : tie.Need-array-read-t7
+array-read-t7 c = search needs
+
+array-read-t11 : tie.Need-array-read-t11
+array-read-t11 c = search needs
+
+array-read-t14 : tie.Need-array-read-t14
+array-read-t14 c = search needs
+
+array-read-t17 : tie.Need-array-read-t17
+array-read-t17 c = search needs
+
+array-read-t20 : tie.Need-array-read-t20
+array-read-t20 c = search needs
+
+returns : tie.Need-returns
+returns c = strip-is _ _ (c .part-at .ensures)
+
+pub strip-at-spec : {M : Type 1} → statement M
+strip-at-spec =
+    tie.close
+    (tie.spec
+    part-at-requires
+    array-read-t7
+    array-read-t11
+    array-read-t14
+    array-read-t17
+    array-read-t20
+    returns)

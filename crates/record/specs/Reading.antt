@@ -1,0 +1,118 @@
+-- The state that a record says. Each part is read from the front of a list; behind the end of a list there are only zeros.
+-- Assumes nothing.
+use mathlib.Core.Bool.{Bool, cond}
+use mathlib.Core.List.{List, [], _∷_}
+use Prim.Native.Nat.{ℕ, zero, suc, _+_, _*_}
+use lib.Dec.{eqb}
+use lib.ListN.{drop}
+use Rattle.queue.specs.declared.Flow.{Flow}
+use Rattle.queue.specs.Record.{at}
+use Rattle.state.specs.declared.Phase.{Phase}
+use Rattle.state.specs.declared.Phase.the-variants.{Idle, Prefix, Gathering, Inline, Upload}
+use Rattle.state.specs.declared.Text.{Text}
+use Rattle.state.specs.declared.Drawing.{Drawing}
+use Rattle.state.specs.declared.Refusals.{Refusals}
+use Rattle.state.specs.declared.Port.{Port}
+use Rattle.state.specs.declared.BarSlot.{BarSlot}
+use Rattle.state.specs.declared.Strip.{Strip}
+use Rattle.state.specs.declared.Serial.{Serial}
+use Rattle.state.specs.declared.Backlight.{Backlight}
+use Rattle.state.specs.declared.Panel.{Panel}
+use Rattle.state.specs.declared.State.{State}
+use Rattle.state.specs.State.{barOf, barSlot, strip, state}
+use Rattle.record.specs.Layout.{phaseAt, codeAt, gotAt, argumentsAt, inlineAt, uploadAt, textAt, drawingAt, flowAt, refusalsAt, barsAt, barSize, stripsAt, stripSize, serialAt, contrastAt, backlightAt}
+
+-- a number of two bytes, low byte first
+abbrev pub pairAt : List ℕ → ℕ → ℕ
+pairAt l k = at l k + 256 * at l (k + 1)
+
+-- a flag is true exactly where its byte is 1
+abbrev pub flagAt : List ℕ → ℕ → Bool
+flagAt l k = eqb (at l k) 1
+
+-- n things, each `size` bytes behind the one before
+unfoldable pub manyOf : {A : Type 0} → (List ℕ → A) → ℕ → List ℕ → ℕ → List A
+manyOf one size l zero = []
+manyOf one size l (suc n) = one l ∷ manyOf one size (drop size l) n
+
+-- ---- one line
+
+abbrev pub inlineOf : List ℕ → Phase
+inlineOf l = Inline (at l 0) (at l 1) (at l 2) (at l 3) (pairAt l 4)
+
+abbrev pub uploadOf : List ℕ → Phase
+uploadOf l = Upload (at l 0) (at l 1) (pairAt l 2) (pairAt l 4) (flagAt l 6) (at l 7)
+
+-- a tag above 4 is read as idle
+unfoldable pub phaseOf : List ℕ → Phase
+phaseOf r =
+    cond (eqb (at r phaseAt) 1) Prefix
+    (cond (eqb (at r phaseAt) 2) (Gathering (at r codeAt) (at r gotAt))
+    (cond (eqb (at r phaseAt) 3) (inlineOf (drop inlineAt r))
+    (cond (eqb (at r phaseAt) 4) (uploadOf (drop uploadAt r))
+    Idle)))
+
+abbrev pub argumentsIn : List ℕ → List ℕ
+argumentsIn l = at l 0 ∷ at l 1 ∷ at l 2 ∷ at l 3 ∷ at l 4 ∷ at l 5 ∷ []
+
+abbrev pub textOf : List ℕ → Text
+textOf l =
+    record {
+      font = at l 0;
+      x = pairAt l 1;
+      y = at l 3;
+      left = at l 4;
+      top = at l 5;
+      «char_space» = at l 6;
+      «line_space» = at l 7;
+      «scroll_row» = at l 8;
+      wrap = flagAt l 9;
+      scroll = flagAt l 10;
+    }
+
+abbrev pub drawingOf : List ℕ → Drawing
+drawingOf l = record { black = flagAt l 0; x = at l 1; y = at l 2 }
+
+abbrev pub flowOf : List ℕ → Flow
+flowOf l = record { on = flagAt l 0; full = at l 1; empty = at l 2 }
+
+abbrev pub refusalsOf : List ℕ → Refusals
+refusalsOf l = record { count = pairAt l 0; last = at l 2 }
+
+unfoldable pub portOf : List ℕ → Port
+portOf r =
+    record {
+      phase = phaseOf r;
+      args = argumentsIn (drop argumentsAt r);
+      text = textOf (drop textAt r);
+      drawing = drawingOf (drop drawingAt r);
+      flow = flowOf (drop flowAt r);
+      refusals = refusalsOf (drop refusalsAt r);
+    }
+
+-- ---- the display
+
+abbrev pub slotOf : List ℕ → BarSlot
+slotOf l = barSlot (flagAt l 0) (barOf (at l 1) (at l 2) (at l 3) (at l 4) (at l 5) (at l 6))
+
+abbrev pub stripOf : List ℕ → Strip
+stripOf l = strip (flagAt l 0) (at l 1) (at l 2) (at l 3) (at l 4)
+
+abbrev pub serialOf : List ℕ → Serial
+serialOf l = record { on = flagAt l 0; a = at l 1; b = at l 2 }
+
+abbrev pub backlightOf : List ℕ → Backlight
+backlightOf l = record { on = flagAt l 0; minutes = at l 1 }
+
+unfoldable pub panelOf : List ℕ → Panel
+panelOf r =
+    record {
+      bars = manyOf slotOf barSize (drop barsAt r) 16;
+      strips = manyOf stripOf stripSize (drop stripsAt r) 8;
+      serial = serialOf (drop serialAt r);
+      contrast = at r contrastAt;
+      backlight = backlightOf (drop backlightAt r);
+    }
+
+unfoldable pub decodeOf : List ℕ → State
+decodeOf r = state (portOf r) (panelOf r)

@@ -1,0 +1,26 @@
+-- The record of a state, 201 bytes: what is written of it, and which records are sound.
+-- Assumes nothing.
+use mathlib.Core.Bool.{Bool, true, false, _&&_}
+use mathlib.Core.List.{List, [], _∷_, _++_}
+use Prim.Native.Nat.{ℕ}
+use lib.Dec.{eqb}
+use lib.ListN.{length, take, drop}
+use Rattle.state.specs.declared.State.{State}
+use Rattle.state.specs.Soundness.{soundState}
+use Rattle.record.specs.Layout.{recordSize}
+use Rattle.record.specs.Reading.{decodeOf}
+use Rattle.record.specs.Writing.{encodeOf}
+
+-- written over the first bytes of g, as far as g goes; the bytes of g behind the record stay
+unfoldable pub encodedIn : State → List ℕ → List ℕ
+encodedIn s g = take (length g) (encodeOf s) ++ drop recordSize g
+
+unfoldable pub sameBytes : List ℕ → List ℕ → Bool
+sameBytes [] [] = true
+sameBytes [] (b ∷ m) = false
+sameBytes (a ∷ l) [] = false
+sameBytes (a ∷ l) (b ∷ m) = eqb a b && sameBytes l m
+
+-- of a sound state, and as that state is written
+unfoldable pub soundRecord : ℕ → List ℕ → Bool
+soundRecord h r = eqb (length r) recordSize && soundState h (decodeOf r) && sameBytes (encodeOf (decodeOf r)) r

@@ -1,0 +1,90 @@
+-- The bytes of a state, part by part in the order of the record. Places that the present phase does not use are 0.
+-- Assumes nothing.
+use mathlib.Core.List.{List, [], _∷_, _++_}
+use Prim.Native.Nat.{ℕ, _+_, _/_, _%_}
+use lib.ListN.{set}
+use Rattle.queue.specs.Record.{bit}
+use Rattle.state.specs.declared.Phase.{Phase}
+use Rattle.state.specs.declared.Phase.the-variants.{Idle, Prefix, Gathering, Inline, Upload}
+use Rattle.state.specs.declared.Text.{Text}
+use Rattle.state.specs.declared.Port.{Port}
+use Rattle.state.specs.declared.BarSlot.{BarSlot}
+use Rattle.state.specs.declared.Strip.{Strip}
+use Rattle.state.specs.declared.Panel.{Panel}
+use Rattle.state.specs.declared.State.{State}
+
+-- a number of two bytes, low byte first
+abbrev pub low : ℕ → ℕ
+low n = n % 256
+
+abbrev pub high : ℕ → ℕ
+high n = n / 256
+
+unfoldable pub manyBytes : {A : Type 0} → (A → List ℕ) → List A → List ℕ
+manyBytes one [] = []
+manyBytes one (a ∷ l) = one a ++ manyBytes one l
+
+-- ---- one line
+
+abbrev pub gatheringBytes : Phase → List ℕ
+gatheringBytes Idle = 0 ∷ 0 ∷ 0 ∷ []
+gatheringBytes Prefix = 1 ∷ 0 ∷ 0 ∷ []
+gatheringBytes (Gathering c g) = 2 ∷ c ∷ g ∷ []
+gatheringBytes (Inline x1 y1 x2 y2 d) = 3 ∷ 0 ∷ 0 ∷ []
+gatheringBytes (Upload k n z s w b) = 4 ∷ 0 ∷ 0 ∷ []
+
+abbrev pub dataBytes : Phase → List ℕ
+dataBytes Idle = 0 ∷ 0 ∷ 0 ∷ 0 ∷ 0 ∷ 0 ∷ []
+dataBytes Prefix = 0 ∷ 0 ∷ 0 ∷ 0 ∷ 0 ∷ 0 ∷ []
+dataBytes (Gathering c g) = 0 ∷ 0 ∷ 0 ∷ 0 ∷ 0 ∷ 0 ∷ []
+dataBytes (Inline x1 y1 x2 y2 d) = x1 ∷ y1 ∷ x2 ∷ y2 ∷ low d ∷ high d ∷ []
+dataBytes (Upload k n z s w b) = 0 ∷ 0 ∷ 0 ∷ 0 ∷ 0 ∷ 0 ∷ []
+
+abbrev pub uploadBytes : Phase → List ℕ
+uploadBytes Idle = 0 ∷ 0 ∷ 0 ∷ 0 ∷ 0 ∷ 0 ∷ 0 ∷ 0 ∷ []
+uploadBytes Prefix = 0 ∷ 0 ∷ 0 ∷ 0 ∷ 0 ∷ 0 ∷ 0 ∷ 0 ∷ []
+uploadBytes (Gathering c g) = 0 ∷ 0 ∷ 0 ∷ 0 ∷ 0 ∷ 0 ∷ 0 ∷ 0 ∷ []
+uploadBytes (Inline x1 y1 x2 y2 d) = 0 ∷ 0 ∷ 0 ∷ 0 ∷ 0 ∷ 0 ∷ 0 ∷ 0 ∷ []
+uploadBytes (Upload k n z s w b) = k ∷ n ∷ low z ∷ high z ∷ low s ∷ high s ∷ bit w ∷ b ∷ []
+
+abbrev pub textBytes : Text → List ℕ
+textBytes t =
+    t .font ∷ low (t .x) ∷ high (t .x) ∷ t .y ∷ t .left ∷ t .top ∷ t .«char_space» ∷ t .«line_space» ∷ t .«scroll_row» ∷ bit (t .wrap) ∷ bit (t .scroll) ∷ []
+
+-- drawing, flow, refusals
+abbrev pub otherBytes : Port → List ℕ
+otherBytes p =
+    bit (p .drawing .black) ∷ p .drawing .x ∷ p .drawing .y
+    ∷ bit (p .flow .on) ∷ p .flow .full ∷ p .flow .empty
+    ∷ low (p .refusals .count) ∷ high (p .refusals .count) ∷ p .refusals .last ∷ []
+
+-- the phase with the arguments
+unfoldable pub phaseBytes : Port → List ℕ
+phaseBytes p = gatheringBytes (p .phase) ++ (p .args ++ (dataBytes (p .phase) ++ uploadBytes (p .phase)))
+
+unfoldable pub portBytes : Port → List ℕ
+portBytes p = phaseBytes p ++ (textBytes (p .text) ++ otherBytes p)
+
+-- ---- the display
+
+abbrev pub slotBytes : BarSlot → List ℕ
+slotBytes s = bit (s .on) ∷ s .bar .kind ∷ s .bar .x1 ∷ s .bar .y1 ∷ s .bar .x2 ∷ s .bar .y2 ∷ s .bar .value ∷ []
+
+abbrev pub stripBytes : Strip → List ℕ
+stripBytes s = bit (s .on) ∷ s .x1 ∷ s .y1 ∷ s .x2 ∷ s .y2 ∷ []
+
+-- serial, contrast, backlight
+abbrev pub lastBytes : Panel → List ℕ
+lastBytes q = bit (q .serial .on) ∷ q .serial .a ∷ q .serial .b ∷ q .contrast ∷ bit (q .backlight .on) ∷ q .backlight .minutes ∷ []
+
+unfoldable pub panelBytes : Panel → List ℕ
+panelBytes q = manyBytes slotBytes (q .bars) ++ (manyBytes stripBytes (q .strips) ++ lastBytes q)
+
+unfoldable pub encodeOf : State → List ℕ
+encodeOf s = portBytes (s .port) ++ panelBytes (s .panel)
+
+-- ---- what the contracts of private functions cite: l written over g from index k on, as far as g goes
+
+unfoldable pub over : List ℕ → ℕ → List ℕ → List ℕ
+over [] k g = g
+over (b ∷ l) k g = over l (k + 1) (set g k b)

@@ -1,0 +1,120 @@
+// The state as the record of 201 bytes that a caller keeps.
+mod reading;
+mod writing;
+
+use reading::panel_of;
+use reading::port_of;
+use state::State;
+use state::is_sound;
+use writing::encode_panel;
+use writing::encode_port;
+ghost use mathlib.Core.Path.{_≡_};
+ghost use lib.ListN.{length};
+ghost use Rattle.record.specs.Reading.{decodeOf};
+ghost use Rattle.record.specs.Record.{encodedIn, sameBytes, soundRecord};
+
+// Where the parts stand. The phase: 0 idle, 1 prefix, 2 gathering, 3 in line, 4 upload.
+pub const PHASE: usize = 0;
+
+// Gathering: code, got.
+pub const CODE: usize = 1;
+
+pub const GOT: usize = 2;
+
+// The six arguments.
+pub const GATHERED: usize = 3;
+
+// Data in line: x1, y1, x2, y2, done (2).
+pub const INLINE: usize = 9;
+
+// Upload: kind, number, size (2), stored (2), waiting, byte.
+pub const UPLOAD: usize = 15;
+
+// Text: font, x (2), y, left, top, char_space, line_space, scroll_row, wrap, scroll.
+pub const TEXT: usize = 23;
+
+// Drawing: black, x, y.
+pub const DRAWING: usize = 34;
+
+// Flow: on, full, empty.
+pub const FLOW: usize = 37;
+
+pub const FLOW_FULL: usize = 38;
+
+pub const FLOW_EMPTY: usize = 39;
+
+// Refusals: count (2), last.
+pub const REFUSAL_COUNT: usize = 40;
+
+pub const LAST_REFUSAL: usize = 42;
+
+// Sixteen bars: on, kind, x1, y1, x2, y2, value.
+pub const FIRST_BAR: usize = 43;
+
+pub const BAR_SIZE: usize = 7;
+
+// Eight strips: on, x1, y1, x2, y2.
+pub const FIRST_STRIP: usize = 155;
+
+pub const STRIP_SIZE: usize = 5;
+
+// Serial: on, a, b.
+pub const SERIAL: usize = 195;
+
+pub const CONTRAST: usize = 198;
+
+pub const BACKLIGHT: usize = 199;
+
+pub const MINUTES: usize = 200;
+
+pub const RECORD: usize = 201;
+
+// The state that a record says; a short record goes on with zeros.
+pub fn decode(r: &[u8]) -> State
+    ensures { λ s. ⌜ s ≡ decodeOf (now (r .entry)) ⌝ }
+{
+    State {
+        port: port_of(r),
+        panel: panel_of(r),
+    }
+}
+
+// Writes the record of a state over the first bytes, as far as there are any; all others stay.
+pub fn encode(s: State, out: &mut [u8])
+    ensures { λ _. ⌜ now (out .exit) ≡ encodedIn s (now (out .entry)) ⌝ }
+{
+    let port = s.port;
+    let panel = s.panel;
+    encode_port(port, out);
+    encode_panel(panel, out);
+}
+
+fn is_same(a: [u8; RECORD], r: &[u8]) -> bool
+    requires { ⌜ length (now r) ≡ 201 ⌝ }
+    ensures { λ b. ⌜ b ≡ sameBytes a (now (r .entry)) ⌝ }
+{
+    let mut k = 0;
+    while k < RECORD {
+        if a[k] != r[k] {
+            return false;
+        }
+        k += 1;
+    }
+    true
+}
+
+// Whether it is the record of a sound state, on a glass of `height` rows.
+pub fn is_record(r: &[u8], height: u8) -> bool
+    ensures { λ b. ⌜ b ≡ soundRecord height (now (r .entry)) ⌝ }
+{
+    if r.len() != RECORD {
+        return false;
+    }
+    let s = decode(r);
+    if !is_sound(s, height) {
+        return false;
+    }
+    let mut again = [0; RECORD];
+    encode(s, &mut again);
+    is_same(again, r)
+}

@@ -1,0 +1,288 @@
+// The parts of a state, read from a record.
+use super::BACKLIGHT;
+use super::BAR_SIZE;
+use super::CODE;
+use super::CONTRAST;
+use super::DRAWING;
+use super::FIRST_BAR;
+use super::FIRST_STRIP;
+use super::FLOW;
+use super::GATHERED;
+use super::GOT;
+use super::INLINE;
+use super::PHASE;
+use super::REFUSAL_COUNT;
+use super::SERIAL;
+use super::STRIP_SIZE;
+use super::TEXT;
+use super::UPLOAD;
+use bar_graph::Bar;
+use queue::Flow;
+use state::ARGUMENTS;
+use state::BARS;
+use state::Backlight;
+use state::BarSlot;
+use state::Drawing;
+use state::Panel;
+use state::Phase;
+use state::Port;
+use state::Refusals;
+use state::STRIPS;
+use state::Serial;
+use state::Strip;
+use state::Text;
+ghost use mathlib.Core.Path.{_≡_};
+ghost use Prim.Native.Nat.{_+_, _*_, _<_, _≤_};
+ghost use lib.ListN.{drop};
+ghost use Rattle.queue.specs.Record.{at, bytesFrom};
+ghost use Rattle.record.specs.Layout.{argumentsAt, inlineAt, uploadAt, textAt, drawingAt, flowAt, refusalsAt, barsAt, barSize, stripsAt, stripSize, serialAt, backlightAt};
+ghost use Rattle.record.specs.Reading.{manyOf, inlineOf, uploadOf, phaseOf, argumentsIn, textOf, drawingOf, flowOf, refusalsOf, portOf};
+ghost use Rattle.record.specs.Reading.{slotOf, stripOf, serialOf, backlightOf, panelOf};
+
+// Bytes of the longest part.
+const LONGEST: usize = 11;
+
+fn word(x: u8) -> u16
+    ensures { λ r. ⌜ (r ≡ x) × (r < 256) ⌝ }
+{
+    x as u16
+}
+
+// A number of two bytes.
+fn pair(low: u8, high: u8) -> u16
+    ensures { λ r. ⌜ r ≡ low + 256 * high ⌝ }
+{
+    word(low) + 256 * word(high)
+}
+
+// A byte of a record; behind its end there are only zeros.
+fn byte_at(r: &[u8], k: usize) -> u8
+    ensures { λ b. ⌜ b ≡ at (now (r .entry)) k ⌝ }
+{
+    if k < r.len() { r[k] } else { 0 }
+}
+
+// As many bytes from k on as the longest part has.
+fn part_at(r: &[u8], k: usize) -> [u8; LONGEST]
+    requires { ⌜ k ≤ 200 ⌝ }
+    ensures { λ l. ⌜ l ≡ bytesFrom (drop k (now (r .entry))) 0 11 ⌝ }
+{
+    let mut l = [0; LONGEST];
+    let mut i = 0;
+    while i < LONGEST {
+        l[i] = byte_at(r, k + i);
+        i += 1;
+    }
+    l
+}
+
+fn inline_of(r: &[u8]) -> Phase
+    ensures { λ p. ⌜ p ≡ inlineOf (drop inlineAt (now (r .entry))) ⌝ }
+{
+    let l = part_at(r, INLINE);
+    Phase::Inline {
+        x1: l[0],
+        y1: l[1],
+        x2: l[2],
+        y2: l[3],
+        done: pair(l[4], l[5]),
+    }
+}
+
+fn upload_of(r: &[u8]) -> Phase
+    ensures { λ p. ⌜ p ≡ uploadOf (drop uploadAt (now (r .entry))) ⌝ }
+{
+    let l = part_at(r, UPLOAD);
+    Phase::Upload {
+        kind: l[0],
+        number: l[1],
+        size: pair(l[2], l[3]),
+        stored: pair(l[4], l[5]),
+        waiting: l[6] == 1,
+        byte: l[7],
+    }
+}
+
+fn phase_of(r: &[u8]) -> Phase
+    ensures { λ p. ⌜ p ≡ phaseOf (now (r .entry)) ⌝ }
+{
+    let tag = byte_at(r, PHASE);
+    if tag == 1 {
+        return Phase::Prefix;
+    }
+    if tag == 2 {
+        return Phase::Gathering {
+            code: byte_at(r, CODE),
+            got: byte_at(r, GOT),
+        };
+    }
+    if tag == 3 {
+        return inline_of(r);
+    }
+    if tag == 4 {
+        return upload_of(r);
+    }
+    Phase::Idle
+}
+
+fn arguments_in(r: &[u8]) -> [u8; ARGUMENTS]
+    ensures { λ a. ⌜ a ≡ argumentsIn (drop argumentsAt (now (r .entry))) ⌝ }
+{
+    let l = part_at(r, GATHERED);
+    [l[0], l[1], l[2], l[3], l[4], l[5]]
+}
+
+fn text_of(r: &[u8]) -> Text
+    ensures { λ t. ⌜ t ≡ textOf (drop textAt (now (r .entry))) ⌝ }
+{
+    let l = part_at(r, TEXT);
+    Text {
+        font: l[0],
+        x: pair(l[1], l[2]),
+        y: l[3],
+        left: l[4],
+        top: l[5],
+        char_space: l[6],
+        line_space: l[7],
+        scroll_row: l[8],
+        wrap: l[9] == 1,
+        scroll: l[10] == 1,
+    }
+}
+
+fn drawing_of(r: &[u8]) -> Drawing
+    ensures { λ d. ⌜ d ≡ drawingOf (drop drawingAt (now (r .entry))) ⌝ }
+{
+    let l = part_at(r, DRAWING);
+    Drawing {
+        black: l[0] == 1,
+        x: l[1],
+        y: l[2],
+    }
+}
+
+fn flow_of(r: &[u8]) -> Flow
+    ensures { λ f. ⌜ f ≡ flowOf (drop flowAt (now (r .entry))) ⌝ }
+{
+    let l = part_at(r, FLOW);
+    Flow {
+        on: l[0] == 1,
+        full: l[1],
+        empty: l[2],
+    }
+}
+
+fn refusals_of(r: &[u8]) -> Refusals
+    ensures { λ n. ⌜ n ≡ refusalsOf (drop refusalsAt (now (r .entry))) ⌝ }
+{
+    let l = part_at(r, REFUSAL_COUNT);
+    Refusals {
+        count: pair(l[0], l[1]),
+        last: l[2],
+    }
+}
+
+pub fn port_of(r: &[u8]) -> Port
+    ensures { λ p. ⌜ p ≡ portOf (now (r .entry)) ⌝ }
+{
+    Port {
+        phase: phase_of(r),
+        args: arguments_in(r),
+        text: text_of(r),
+        drawing: drawing_of(r),
+        flow: flow_of(r),
+        refusals: refusals_of(r),
+    }
+}
+
+fn slot_at(r: &[u8], k: usize) -> BarSlot
+    requires { ⌜ k ≤ 200 ⌝ }
+    ensures { λ s. ⌜ s ≡ slotOf (drop k (now (r .entry))) ⌝ }
+{
+    let l = part_at(r, k);
+    let bar = Bar {
+        kind: l[1],
+        x1: l[2],
+        y1: l[3],
+        x2: l[4],
+        y2: l[5],
+        value: l[6],
+    };
+    BarSlot {
+        on: l[0] == 1,
+        bar: bar,
+    }
+}
+
+fn bars_of(r: &[u8]) -> [BarSlot; BARS]
+    ensures { λ l. ⌜ l ≡ manyOf slotOf barSize (drop barsAt (now (r .entry))) 16 ⌝ }
+{
+    let first = slot_at(r, FIRST_BAR);
+    let mut bars = [first; BARS];
+    let mut i = 1;
+    while i < BARS {
+        bars[i] = slot_at(r, FIRST_BAR + BAR_SIZE * i);
+        i += 1;
+    }
+    bars
+}
+
+fn strip_at(r: &[u8], k: usize) -> Strip
+    requires { ⌜ k ≤ 200 ⌝ }
+    ensures { λ s. ⌜ s ≡ stripOf (drop k (now (r .entry))) ⌝ }
+{
+    let l = part_at(r, k);
+    Strip {
+        on: l[0] == 1,
+        x1: l[1],
+        y1: l[2],
+        x2: l[3],
+        y2: l[4],
+    }
+}
+
+fn strips_of(r: &[u8]) -> [Strip; STRIPS]
+    ensures { λ l. ⌜ l ≡ manyOf stripOf stripSize (drop stripsAt (now (r .entry))) 8 ⌝ }
+{
+    let first = strip_at(r, FIRST_STRIP);
+    let mut strips = [first; STRIPS];
+    let mut i = 1;
+    while i < STRIPS {
+        strips[i] = strip_at(r, FIRST_STRIP + STRIP_SIZE * i);
+        i += 1;
+    }
+    strips
+}
+
+fn serial_of(r: &[u8]) -> Serial
+    ensures { λ s. ⌜ s ≡ serialOf (drop serialAt (now (r .entry))) ⌝ }
+{
+    let l = part_at(r, SERIAL);
+    Serial {
+        on: l[0] == 1,
+        a: l[1],
+        b: l[2],
+    }
+}
+
+fn backlight_of(r: &[u8]) -> Backlight
+    ensures { λ b. ⌜ b ≡ backlightOf (drop backlightAt (now (r .entry))) ⌝ }
+{
+    let l = part_at(r, BACKLIGHT);
+    Backlight {
+        on: l[0] == 1,
+        minutes: l[1],
+    }
+}
+
+pub fn panel_of(r: &[u8]) -> Panel
+    ensures { λ q. ⌜ q ≡ panelOf (now (r .entry)) ⌝ }
+{
+    Panel {
+        bars: bars_of(r),
+        strips: strips_of(r),
+        serial: serial_of(r),
+        contrast: byte_at(r, CONTRAST),
+        backlight: backlight_of(r),
+    }
+}

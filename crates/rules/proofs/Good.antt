@@ -1,0 +1,228 @@
+-- A good world by its parts: what is good of each part that a command puts anew, with the lengths of screen and store beside them; both directions.
+-- Assumes nothing.
+use mathlib.Core.Path.{_≡_, refl, ap}
+use mathlib.Core.Bool.{Bool, true, false}
+use mathlib.Core.List.{List, []}
+use Prim.Native.Nat.{ℕ, _+_, _/_, _≤_, _<_}
+use lib.ListN.{length, getD, drop}
+use borrow.Author.Tests.{leb-true, ltb-true, le-leb, lt-ltb}
+use Rattle.pixels.specs.Framebuffer.{height}
+use Rattle.pixels.proofs.Tests.{by-test}
+use Rattle.queue.specs.declared.Flow.{Flow}
+use Rattle.directory.specs.Directory.{validOf}
+use Rattle.file_laws.proofs.Written.{and-both}
+use Rattle.state.specs.declared.Phase.{Phase}
+use Rattle.state.specs.declared.Text.{Text}
+use Rattle.state.specs.declared.Drawing.{Drawing}
+use Rattle.state.specs.declared.Refusals.{Refusals}
+use Rattle.state.specs.declared.Port.{Port}
+use Rattle.state.specs.declared.BarSlot.{BarSlot}
+use Rattle.state.specs.declared.Strip.{Strip}
+use Rattle.state.specs.declared.Serial.{Serial}
+use Rattle.state.specs.declared.Panel.{Panel}
+use Rattle.state.specs.State.{noBar, noStrip, withPhase, withDrawing, withFlow, withRefusals, withBars, withStrips}
+use Rattle.state.specs.Soundness.{soundPhase, gathered, allZero, soundPort, soundBars, soundStrips, soundSerial, soundPanel, soundState}
+use Rattle.rules.specs.World.{World, rows, port, panel, withScreen, withStore, withPort, withPanel, putText, Outcome, done, refused, refuseIf}
+use Rattle.rules.specs.Sound.{Bytes, PhaseFits, ArgsFit, TextFits, DrawingFits, FlowFits, RefusalsFit, PortFits, BarFits, StripFits, SerialFits, PanelFits, Welcome, Good}
+
+-- ---- the parts
+
+pub record PhaseGood (p : Phase) (a s : List ℕ) : Type 0 where
+  pub sound : soundPhase p ≡ true
+  pub zeros : allZero (drop (gathered p) a) ≡ true
+  pub fits : PhaseFits p
+  pub args : ArgsFit a
+  pub welcome : Welcome p s
+
+-- the text point is at most at column 495
+pub record TextGood (t : Text) : Type 0 where
+  pub near : t .x ≤ 495
+  pub fits : TextFits t
+
+pub record FlowGood (f : Flow) : Type 0 where
+  pub sum : f .full + f .empty < 80
+  pub fits : FlowFits f
+
+pub record PortGood (p : Port) (s : List ℕ) : Type 0 where
+  pub phase : PhaseGood (p .phase) (p .args) s
+  pub text : TextGood (p .text)
+  pub drawing : DrawingFits (p .drawing)
+  pub flow : FlowGood (p .flow)
+  pub refusals : RefusalsFit (p .refusals)
+
+pub record BarsGood (h : ℕ) (l : List BarSlot) : Type 0 where
+  pub sound : soundBars h l ≡ true
+  pub long : length l ≡ 16
+  pub fits : (i : ℕ) → BarFits (getD l i noBar)
+
+pub record StripsGood (h : ℕ) (l : List Strip) : Type 0 where
+  pub sound : soundStrips h l ≡ true
+  pub long : length l ≡ 8
+  pub fits : (i : ℕ) → StripFits (getD l i noStrip)
+
+pub record SerialGood (s : Serial) : Type 0 where
+  pub sound : soundSerial s ≡ true
+  pub fits : SerialFits s
+
+pub record PanelGood (h : ℕ) (q : Panel) : Type 0 where
+  pub bars : BarsGood h (q .bars)
+  pub strips : StripsGood h (q .strips)
+  pub serial : SerialGood (q .serial)
+  pub contrast : q .contrast < 256
+  pub minutes : q .backlight .minutes < 256
+
+-- m bytes of store
+pub record StoreGood (m : ℕ) (s : List ℕ) : Type 0 where
+  pub bytes : Bytes s
+  pub valid : validOf s ≡ true
+  pub long : length s ≡ m
+
+-- n bytes of screen
+pub record ScreenGood (n : ℕ) (g : List ℕ) : Type 0 where
+  pub bytes : Bytes g
+  pub long : length g ≡ n
+
+pub record Parts (n m : ℕ) (w : World) : Type 0 where
+  pub port-good : PortGood (port w) (w .store)
+  pub panel-good : PanelGood (n / 30) (panel w)
+  pub store : StoreGood m (w .store)
+  pub screen : ScreenGood n (w .screen)
+  pub low : n / 30 < 256
+
+-- ---- from a good world to its parts
+
+port-parts : (p : Port) (s : List ℕ) → soundPort p ≡ true → PortFits p → Welcome (p .phase) s → PortGood p s
+unfolding soundPort
+port-parts p s h f u =
+    let a = and-both _ _ h in
+    let b = and-both _ _ (a .0) in
+    let c = and-both _ _ (b .0) in
+    record {
+      phase = record { sound = c .0; zeros = c .1; fits = f .phase; args = f .args; welcome = u };
+      text = record { near = leb-true (p .text .x) 495 (b .1); fits = f .text };
+      drawing = f .drawing;
+      flow = record { sum = ltb-true (p .flow .full + p .flow .empty) 80 (a .1); fits = f .flow };
+      refusals = f .refusals;
+    }
+
+panel-parts : (h : ℕ) (q : Panel) → soundPanel h q ≡ true → PanelFits q → PanelGood h q
+unfolding soundPanel
+panel-parts h q e f =
+    let a = and-both _ _ e in
+    let b = and-both _ _ (a .0) in
+    record {
+      bars = record { sound = b .0; long = f .sixteen; fits = f .bars };
+      strips = record { sound = b .1; long = f .eight; fits = f .strips };
+      serial = record { sound = a .1; fits = f .serial };
+      contrast = f .contrast;
+      minutes = f .minutes;
+    }
+
+pub parts : {w : World} → Good w → Parts (length (w .screen)) (length (w .store)) w
+unfolding soundState height
+parts {w} g =
+    let s = and-both _ _ (g .sound) in
+    record {
+      port-good = port-parts (port w) (w .store) (s .0) (g .port-fits) (g .upload);
+      panel-good = panel-parts (rows w) (panel w) (s .1) (g .panel-fits);
+      store = record { bytes = g .store .bytes; valid = g .store .valid; long = refl };
+      screen = record { bytes = g .screen .bytes; long = refl };
+      low = g .screen .low;
+    }
+
+-- ---- and from the parts back
+
+port-sound : {p : Port} {s : List ℕ} → PortGood p s → soundPort p ≡ true
+unfolding soundPort
+port-sound {p} g =
+    rw (g .phase .sound, g .phase .zeros, le-leb (p .text .x) 495 (g .text .near), lt-ltb (p .flow .full + p .flow .empty) 80 (g .flow .sum))
+
+panel-sound : {h : ℕ} {q : Panel} → PanelGood h q → soundPanel h q ≡ true
+unfolding soundPanel
+panel-sound g = rw (g .bars .sound, g .strips .sound, g .serial .sound)
+
+pub rows-are : {n m : ℕ} {w : World} → Parts n m w → rows w ≡ n / 30
+unfolding height
+rows-are p = ap (λ (k : ℕ). k / 30) (p .screen .long)
+
+pub good : {n m : ℕ} {w : World} → Parts n m w → Good w
+unfolding soundState
+good {n} {m} {w} p =
+    let q = p .port-good in
+    let r = p .panel-good in
+    record {
+      sound = rw (rows-are p, port-sound q) (panel-sound r);
+      port-fits = record { phase = q .phase .fits; args = q .phase .args; text = q .text .fits; drawing = q .drawing; flow = q .flow .fits; refusals = q .refusals };
+      panel-fits = record { sixteen = r .bars .long; bars = r .bars .fits; eight = r .strips .long; strips = r .strips .fits; serial = r .serial .fits; contrast = r .contrast; minutes = r .minutes };
+      store = record { bytes = p .store .bytes; valid = p .store .valid };
+      screen = record { bytes = p .screen .bytes; low = rw (rows-are p) (p .low) };
+      upload = q .phase .welcome;
+    }
+
+-- ---- a part put anew
+
+module _ {n m : ℕ} {w : World} (p : Parts n m w) where
+  pub put-port : {q : Port} → PortGood q (w .store) → Parts n m (withPort w q)
+  put-port g = record { port-good = g; panel-good = p .panel-good; store = p .store; screen = p .screen; low = p .low }
+
+  pub put-panel : {q : Panel} → PanelGood (n / 30) q → Parts n m (withPanel w q)
+  put-panel g = record { port-good = p .port-good; panel-good = g; store = p .store; screen = p .screen; low = p .low }
+
+  pub put-screen : {g : List ℕ} → ScreenGood n g → Parts n m (withScreen w g)
+  put-screen g = record { port-good = p .port-good; panel-good = p .panel-good; store = p .store; screen = g; low = p .low }
+
+  pub put-text : {t : Text} → TextGood t → Parts n m (putText w t)
+  put-text g = let q = p .port-good in put-port (record { phase = q .phase; text = g; drawing = q .drawing; flow = q .flow; refusals = q .refusals })
+
+  pub put-drawing : {d : Drawing} → DrawingFits d → Parts n m (withPort w (withDrawing (port w) d))
+  put-drawing g = let q = p .port-good in put-port (record { phase = q .phase; text = q .text; drawing = g; flow = q .flow; refusals = q .refusals })
+
+  pub put-flow : {f : Flow} → FlowGood f → Parts n m (withPort w (withFlow (port w) f))
+  put-flow g = let q = p .port-good in put-port (record { phase = q .phase; text = q .text; drawing = q .drawing; flow = g; refusals = q .refusals })
+
+  pub put-refusals : {r : Refusals} → RefusalsFit r → Parts n m (withPort w (withRefusals (port w) r))
+  put-refusals g = let q = p .port-good in put-port (record { phase = q .phase; text = q .text; drawing = q .drawing; flow = q .flow; refusals = g })
+
+  pub put-phase : {f : Phase} {a : List ℕ} → PhaseGood f a (w .store) → Parts n m (withPort w (withPhase (port w) f a))
+  put-phase g = let q = p .port-good in put-port (record { phase = g; text = q .text; drawing = q .drawing; flow = q .flow; refusals = q .refusals })
+
+  pub put-bars : {l : List BarSlot} → BarsGood (n / 30) l → Parts n m (withPanel w (withBars (panel w) l))
+  put-bars g = let q = p .panel-good in put-panel (record { bars = g; strips = q .strips; serial = q .serial; contrast = q .contrast; minutes = q .minutes })
+
+  pub put-strips : {l : List Strip} → StripsGood (n / 30) l → Parts n m (withPanel w (withStrips (panel w) l))
+  put-strips g = let q = p .panel-good in put-panel (record { bars = q .bars; strips = g; serial = q .serial; contrast = q .contrast; minutes = q .minutes })
+
+  -- the store, with the phase as it stands for the new one
+  pub put-store : {s : List ℕ} → StoreGood m s → PhaseGood (port w .phase) (port w .args) s → Parts n m (withStore w s)
+  put-store g f =
+      let q = p .port-good in
+      record {
+        port-good = record { phase = f; text = q .text; drawing = q .drawing; flow = q .flow; refusals = q .refusals };
+        panel-good = p .panel-good;
+        store = g;
+        screen = p .screen;
+        low = p .low;
+      }
+
+  -- both at once
+  pub put-both : {f : Phase} {a s : List ℕ} → StoreGood m s → PhaseGood f a s → Parts n m (withPort (withStore w s) (withPhase (port w) f a))
+  put-both g f =
+      let q = p .port-good in
+      record {
+        port-good = record { phase = f; text = q .text; drawing = q .drawing; flow = q .flow; refusals = q .refusals };
+        panel-good = p .panel-good;
+        store = g;
+        screen = p .screen;
+        low = p .low;
+      }
+
+-- ---- outcomes
+
+-- what is done leaves a good world, and a refusal's number is a byte
+abbrev pub Leaves : ℕ → ℕ → Outcome → Type 0
+Leaves n m (done v r) = Parts n m v
+Leaves n m (refused k r) = k < 256
+
+-- a reason to refuse stands before
+pub passes : (n m : ℕ) (bad : Bool) (k : ℕ) (o : Outcome) → k < 256 → (bad ≡ false → Leaves n m o) → Leaves n m (refuseIf bad k o)
+passes n m bad k o h f = by-test (Leaves n m) bad (refused k []) o (λ _. h) f

@@ -1,0 +1,126 @@
+-- What begins, goes on and ends over many bytes leaves a good world: data in line, uploads; and the commands on files.
+-- Assumes nothing.
+use mathlib.Core.Path.{_≡_, refl}
+use mathlib.Core.Bool.{Bool, true, false, not, _&&_}
+use mathlib.Core.List.{List}
+use Prim.Native.Nat.{ℕ, _+_, _-_, _*_, _≤_, _<_}
+use native.Mathlib.Omega.{arith}
+use native.Mathlib.Nat.{mul-le-mul}
+use lib.Dec.{eqb, leb, ltb}
+use lib.ListN.{length-set}
+use borrow.Author.Tests.{ltb-true, lt-ltb, eqb-false, not-false}
+use Rattle.pixels.proofs.Tests.{by-test}
+use Rattle.bitmap.specs.Bitmaps.{rowBytes}
+use Rattle.directory.specs.Directory.{entries, sizesIn, hasFile}
+use Rattle.files.specs.Files.{deleted, purged, storedByte}
+use Rattle.file_laws.proofs.Written.{and-both}
+use Rattle.file_laws.proofs.Meaning.{entries-stored}
+use Rattle.state.specs.declared.Phase.{Phase}
+use Rattle.state.specs.declared.Phase.the-variants.{Idle, Inline, Upload}
+use Rattle.state.specs.State.{noArgs, startText}
+use Rattle.state.specs.Soundness.{inlineBytes, soundPhase, gathered, allZero, soundInline, soundUpload}
+use Rattle.rules.specs.World.{World, rows, port}
+use Rattle.rules.specs.Drawing.{ordered}
+use Rattle.rules.specs.Pictures.{beginInline, inlineData}
+use Rattle.rules.specs.Files.{inUse, noRoom, beginUpload, confirmed, uploadData, deleteFile, purge}
+use Rattle.rules.specs.Sound.{PhaseFits, Welcome}
+use Rattle.rules.proofs.Good.{PhaseGood, TextGood, StoreGood, Parts, rows-are, put-screen, put-text, put-phase, put-store, put-both, Leaves, passes}
+use Rattle.rules.proofs.GoodLists.{no-args}
+use Rattle.rules.proofs.GoodStore.{isKind, room, stored-good, appended-good, deleted-good, purged-good}
+use Rattle.rules.proofs.GoodText.{painted-good, font-good}
+
+-- a phase with no arguments
+pub settled : (f : Phase) (s : List ℕ) → soundPhase f ≡ true → gathered f ≡ 0 → PhaseFits f → Welcome f s → PhaseGood f noArgs s
+unfolding allZero
+settled f s h e k u = record { sound = h; zeros = rw e; fits = k; args = no-args; welcome = u }
+
+pub idle-good : (s : List ℕ) → PhaseGood Idle noArgs s
+unfolding soundPhase soundInline soundUpload
+idle-good s = settled Idle s refl refl tt tt
+
+-- ---- data in line: the bytes of a rectangle are some, and few
+
+inline-some : (x1 y1 x2 y2 : ℕ) → 0 < inlineBytes x1 y1 x2 y2
+inline-some x1 y1 x2 y2 =
+    let a : 1 ≤ rowBytes x1 x2 = omega arith in
+    let b : 1 ≤ y2 - y1 + 1 = omega arith in
+    let c : 1 * 1 ≤ rowBytes x1 x2 * (y2 - y1 + 1) = mul-le-mul a b in omega (arith, c)
+
+inline-few : (x1 y1 x2 y2 : ℕ) → x2 < 256 → y2 < 256 → inlineBytes x1 y1 x2 y2 ≤ 8192
+inline-few x1 y1 x2 y2 h k =
+    let a : rowBytes x1 x2 ≤ 32 = omega arith in
+    let b : y2 - y1 + 1 ≤ 256 = omega arith in
+    let c : rowBytes x1 x2 * (y2 - y1 + 1) ≤ 32 * 256 = mul-le-mul a b in omega (arith, c)
+
+-- ---- uploads: a stored byte changes nothing that the tests ask for
+
+still-fresh : {m : ℕ} {s : List ℕ} → StoreGood m s → (k n j c : ℕ) → inUse s k n ≡ false → inUse (storedByte s j c) k n ≡ false
+still-fresh {m} {s} g k n j c h = rw (entries-stored s (g .bytes) (g .valid) j c) h
+
+pub still-room : {m : ℕ} {s : List ℕ} → StoreGood m s → (z j c : ℕ) → noRoom s z ≡ false → noRoom (storedByte s j c) z ≡ false
+still-room {m} {s} g z j c h = rw (entries-stored s (g .bytes) (g .valid) j c, length-set s (256 + sizesIn (entries s) + j) c) h
+
+pub start-text : (h : ℕ) → h < 256 → TextGood (startText h)
+start-text h k = omega arith
+
+module _ {n m : ℕ} {w : World} (p : Parts n m w) where
+  pub corners-good : (x1 y1 x2 y2 : ℕ) → x1 < 256 → y1 < 256 → x2 < 256 → y2 < 256 → Leaves n m (beginInline w x1 y1 x2 y2)
+  unfolding beginInline soundPhase soundInline soundUpload
+  corners-good x1 y1 x2 y2 a b c d =
+      passes n m (not (ordered x1 y1 x2 y2)) 18 _ (omega arith) (λ h.
+      put-phase p (settled (Inline x1 y1 x2 y2 0) (w .store) (rw (not-false (ordered x1 y1 x2 y2) h, lt-ltb 0 (inlineBytes x1 y1 x2 y2) (inline-some x1 y1 x2 y2))) refl (a, b, c, d, omega arith) tt))
+
+  pub inline-good : (x1 y1 x2 y2 d b : ℕ) → PhaseGood (Inline x1 y1 x2 y2 d) (port w .args) (w .store) → Leaves n m (inlineData w x1 y1 x2 y2 d b)
+  unfolding inlineData soundPhase soundInline soundUpload
+  inline-good x1 y1 x2 y2 d b q =
+      let f = q .fits in
+      let o = and-both (ordered x1 y1 x2 y2) (ltb d (inlineBytes x1 y1 x2 y2)) (q .sound) .0 in
+      put-phase (put-screen p (painted-good (p .screen) _))
+      (by-test (λ (f : Phase). PhaseGood f noArgs (w .store)) (ltb (d + 1) (inlineBytes x1 y1 x2 y2)) _ _
+      (λ h. settled (Inline x1 y1 x2 y2 (d + 1)) (w .store) (rw (o, h)) refl
+      (f .0, f .1, f .2, f .3, omega (arith, ltb-true (d + 1) (inlineBytes x1 y1 x2 y2) h, inline-few x1 y1 x2 y2 (f .2) (f .3))) tt)
+      (λ _. idle-good (w .store)))
+
+  pub upload-good : (k i z : ℕ) → isKind k ≡ true → k < 256 → i < 256 → z < 65536 → Leaves n m (beginUpload w k i z)
+  unfolding beginUpload soundPhase soundInline soundUpload
+  upload-good k i z e hk hi hz =
+      by-test (Leaves n m) (inUse (w .store) k i) _ _ (λ _. omega arith) (λ u.
+      by-test (Leaves n m) (noRoom (w .store) z) _ _ (λ _. omega arith) (λ v.
+      put-phase p (settled (Upload k i z 0 false 0) (w .store) (rw (e, lt-ltb 0 z (omega (arith, eqb-false z 0 (room (w .store) z v .some))))) refl
+      (hk, hi, hz, omega arith, omega arith) (u, v))))
+
+  confirmed-good : (k i z s c : ℕ) → PhaseGood (Upload k i z s true c) (port w .args) (w .store) → Parts n m (confirmed w k i z s c)
+  unfolding soundPhase soundInline soundUpload
+  confirmed-good k i z s c q =
+      let f = q .fits in
+      let u = q .welcome in
+      let e = and-both (isKind k) (ltb s z) (and-both (isKind k && ltb s z) true (q .sound) .0) .0 in
+      let t = stored-good (p .store) s c (f .4) in
+      let x = still-fresh (p .store) k i s c (u .0) in
+      let y = still-room (p .store) z s c (u .1) in
+      by-test (Parts n m) (ltb (s + 1) z) _ _
+      (λ h. put-both p t (settled (Upload k i z (s + 1) false 0) (storedByte (w .store) s c) (rw (e, h)) refl
+      (f .0, f .1, f .2, omega (arith, ltb-true (s + 1) z h, f .2), omega arith) (x, y)))
+      (λ _. put-both p (appended-good t k i z e (f .0) (f .1) (f .2) x y) (idle-good _))
+
+  pub data-good : (k i z s : ℕ) (v : Bool) (c b : ℕ) → PhaseGood (Upload k i z s v c) (port w .args) (w .store) → b < 256 → Leaves n m (uploadData w k i z s v c b)
+  unfolding uploadData soundPhase soundInline soundUpload
+  data-good k i z s false c b q h =
+      let f = q .fits in
+      let e = and-both (isKind k && ltb s z) (eqb c 0) (q .sound) .0 in
+      put-phase p (settled (Upload k i z s true b) (w .store) (rw e) refl (f .0, f .1, f .2, f .3, h) (q .welcome))
+  data-good k i z s true c b q h = passes n m (not (eqb b 1)) 26 _ (omega arith) (λ _. confirmed-good k i z s c q)
+
+  -- outside a command
+  pub delete-good : ((s : List ℕ) → PhaseGood (port w .phase) (port w .args) s) → (t i : ℕ) → Leaves n m (deleteFile w t i)
+  unfolding deleteFile
+  delete-good f t i =
+      passes n m (leb 2 t) 20 _ (omega arith) (λ _. passes n m (not (hasFile (entries (w .store)) (t + 1) i)) 22 _ (omega arith) (λ h.
+      let q = put-store p (deleted-good (p .store) (t + 1) i (not-false (hasFile (entries (w .store)) (t + 1) i) h)) (f (deleted (w .store) (t + 1) i)) in
+      by-test (Parts n m) (eqb (t + 1) 1 && eqb i (port w .text .font)) _ _ (λ _. put-text q (font-good (p .port-good .text) 1 (omega arith))) (λ _. q)))
+
+  pub purge-good : ((s : List ℕ) → PhaseGood (port w .phase) (port w .args) s) → (a b : ℕ) → Leaves n m (purge w a b)
+  unfolding purge
+  purge-good f a b =
+      passes n m (not (eqb a 89 && eqb b 33)) 20 _ (omega arith) (λ _.
+      put-text (put-store p (purged-good (p .store)) (f (purged (w .store)))) (start-text (rows w) (omega (arith, rows-are p, p .low))))

@@ -1,0 +1,132 @@
+-- Text on a good world leaves a good one: the text point, the settings, the font, characters.
+-- Assumes nothing.
+use mathlib.Core.Path.{_∙_}
+use mathlib.Core.Bool.{Bool, _&&_, _||_}
+use mathlib.Core.List.{List}
+use Prim.Native.Nat.{ℕ, _+_, _≤_, _<_}
+use native.Mathlib.Omega.{arith}
+use lib.Dec.{eqb, leb}
+use lib.ListN.{take, drop}
+use borrow.Author.Tests.{leb-true, leb-false}
+use Rattle.pixels.specs.Framebuffer.{repaint}
+use Rattle.pixels.proofs.Tests.{by-test, or-one, or-two}
+use Rattle.pixels.proofs.Painting.{length-repaint, bytes-repaint}
+use Rattle.directory.specs.declared.Found.{Found}
+use Rattle.directory.specs.declared.Found.the-variants.{At, Nothing}
+use Rattle.directory.specs.Directory.{findOf}
+use Rattle.fonts.specs.declared.Glyph.{Glyph}
+use Rattle.fonts.specs.declared.Glyph.the-variants
+use Rattle.fonts.specs.Fonts.{isFont, heightOf, glyphOf}
+use Rattle.file_laws.proofs.Written.{and-both}
+use Rattle.state.specs.declared.Text.{Text}
+use Rattle.rules.specs.World.{World, rows, port}
+use Rattle.rules.specs.Fonts.{Opened, opened, shut, openedAt, openFont}
+use Rattle.rules.specs.Text.{atPoint, home, withFont, withWrap, withScroll, withMetrics, placeX, placeY, Place, place, nowhere, wrapped, roomFor, movedUp, glyphAt, glyphOn, characterIn, character, fontChosen, chooseFont, placeIn, setPlace}
+use Rattle.rules.specs.Sound.{Bytes}
+use Rattle.rules.proofs.Good.{TextGood, ScreenGood, Parts, rows-are, put-screen, put-text, Leaves, passes}
+
+-- ---- the screen: every painter makes bytes, as many as there were
+
+pub painted-good : {n : ℕ} {g : List ℕ} → ScreenGood n g → (f : ℕ → ℕ → Bool → Bool) → ScreenGood n (repaint f g)
+painted-good {n} {g} s f = record { bytes = bytes-repaint f g; long = length-repaint f g ∙ s .long }
+
+-- ---- the text point and its settings
+
+pub at-point : {t : Text} → TextGood t → (x y : ℕ) → x ≤ 495 → y < 256 → TextGood (atPoint t x y)
+at-point g x y h k = omega arith
+
+pub home-good : {t : Text} → TextGood t → TextGood (home t)
+home-good g = omega arith
+
+pub font-good : {t : Text} → TextGood t → (i : ℕ) → i < 256 → TextGood (withFont t i)
+font-good g i h = omega arith
+
+pub wrap-good : {t : Text} → TextGood t → (b : Bool) → TextGood (withWrap t b)
+wrap-good g b = omega arith
+
+pub scroll-good : {t : Text} → TextGood t → (b : Bool) → TextGood (withScroll t b)
+scroll-good g b = omega arith
+
+pub metrics-good : {t : Text} → TextGood t → (a : List ℕ) → Bytes a → TextGood (withMetrics t a)
+metrics-good g a b = omega (arith, b 0, b 1, b 2, b 3, b 4)
+
+-- ---- fonts: a refusal's number is a byte
+
+abbrev Numbered : Opened → Type 0
+Numbered (opened f) = Unit {0}
+Numbered (shut r) = r < 256
+
+found-numbered : (h : ℕ) (t : Found) (s : List ℕ) → Numbered (openedAt h t s)
+unfolding openedAt
+found-numbered h Nothing s = omega arith
+found-numbered h (At p a z) s = by-test Numbered (isFont h (take z (drop a s))) _ _ (λ _. tt) (λ _. omega arith)
+
+font-numbered : (h : ℕ) (s : List ℕ) (i : ℕ) → Numbered (openFont h s i)
+unfolding openFont
+font-numbered h s i = by-test Numbered (eqb i 1) _ _ (λ _. tt) (λ _. found-numbered h (findOf s 1 i) s)
+
+-- ---- places: a character ends at column 240 at most, and its row is on the screen
+
+abbrev Placed : ℕ → ℕ → Place → Type 0
+Placed h v nowhere = Unit {0}
+Placed h v (place x y up) = (x + v ≤ 240) × (y ≤ h)
+
+room-placed : (h v f : ℕ) (p : Place) → Placed h v (roomFor h v f p)
+unfolding roomFor
+room-placed h v f nowhere = tt
+room-placed h v f (place x y up) =
+    by-test (Placed h v) (leb (x + v) 240 && leb (y + f) h) _ _
+    (λ e. let a = and-both (leb (x + v) 240) (leb (y + f) h) e in
+    let b = leb-true (x + v) 240 (a .0) in
+    let c = leb-true (y + f) h (a .1) in omega arith)
+    (λ _. tt)
+
+module _ {n m : ℕ} {w : World} (p : Parts n m w) where
+  choice : (i : ℕ) (o : Opened) → i < 256 → Numbered o → Leaves n m (fontChosen w i o)
+  unfolding fontChosen
+  choice i (opened f) h k = put-text p (font-good (p .port-good .text) i h)
+  choice i (shut r) h k = k
+
+  pub choose-good : (i : ℕ) → i < 256 → Leaves n m (chooseFont w i)
+  unfolding chooseFont
+  choose-good i h = choice i (openFont (rows w) (w .store) i) h (font-numbered (rows w) (w .store) i)
+
+  placing : (c r : ℕ) (o : Opened) → Numbered o → Leaves n m (placeIn w c r o)
+  unfolding placeIn
+  placing c r (shut i) k = k
+  placing c r (opened f) k =
+      let x = placeX (port w .text) f c in
+      let y = placeY (port w .text) f r in
+      passes n m (eqb c 0 || eqb r 0 || leb 240 x || leb (rows w) y) 17 _ (omega arith)
+      (λ h. let hx = leb-false 240 x (or-two (eqb c 0 || eqb r 0) (leb 240 x) (or-one (eqb c 0 || eqb r 0 || leb 240 x) (leb (rows w) y) h)) in
+      let hy = leb-false (rows w) y (or-two (eqb c 0 || eqb r 0 || leb 240 x) (leb (rows w) y) h) in
+      put-text p (at-point (p .port-good .text) x y (omega (arith, hx)) (omega (arith, hy, rows-are p, p .low))))
+
+  pub place-good : (c r : ℕ) → Leaves n m (setPlace w c r)
+  unfolding setPlace
+  place-good c r = placing c r (openFont (rows w) (w .store) (port w .text .font)) (font-numbered (rows w) (w .store) (port w .text .font))
+
+  raised-good : (up : ℕ) → ScreenGood n (movedUp up (w .screen))
+  raised-good up = by-test (ScreenGood n) (eqb up 0) _ _ (λ _. p .screen) (λ _. painted-good (p .screen) _)
+
+  glyph-at : (f : List ℕ) (o v : ℕ) (q : Place) → Placed (rows w) v q → Leaves n m (glyphAt w f o v q)
+  unfolding glyphAt
+  glyph-at f o v nowhere h = omega arith
+  glyph-at f o v (place x y up) h =
+      put-text (put-screen p (painted-good (raised-good up) _))
+      (at-point (p .port-good .text) (x + v + port w .text .«char_space») y (omega (arith, h .0, p .port-good .text .fits .char-space)) (omega (arith, h .1, rows-are p, p .low)))
+
+  glyph-on : (f : List ℕ) (g : Glyph) → Leaves n m (glyphOn w f g)
+  unfolding glyphOn
+  glyph-on f the-variants.Missing = omega arith
+  glyph-on f (the-variants.At o v) =
+      glyph-at f o v (roomFor (rows w) v (heightOf f) (wrapped (port w .text) v (heightOf f))) (room-placed (rows w) v (heightOf f) (wrapped (port w .text) v (heightOf f)))
+
+  in-font : (c : ℕ) (o : Opened) → Numbered o → Leaves n m (characterIn w c o)
+  unfolding characterIn
+  in-font c (shut r) k = k
+  in-font c (opened f) k = glyph-on f (glyphOf f c)
+
+  pub character-good : (c : ℕ) → Leaves n m (character w c)
+  unfolding character
+  character-good c = in-font c (openFont (rows w) (w .store) (port w .text .font)) (font-numbered (rows w) (w .store) (port w .text .font))

@@ -1,0 +1,16 @@
+pub mod Examples
+pub mod Refusals
+pub mod Streams
+pub mod Obeying
+pub mod ByCommand
+pub mod ByByte
+pub mod Counts
+pub mod Good
+pub mod GoodLists
+pub mod GoodStore
+pub mod GoodText
+pub mod GoodCommands
+pub mod GoodPhases
+pub mod GoodByte
+pub mod StaysStore
+pub mod Stays

@@ -1,0 +1,15 @@
+pub mod World
+pub mod Fonts
+pub mod Text
+pub mod Drawing
+pub mod Bars
+pub mod Pictures
+pub mod Files
+pub mod Settings
+pub mod Step
+pub mod Calls
+pub mod History
+pub mod Events
+pub mod Chunks
+pub mod Sound
+pub mod Stays

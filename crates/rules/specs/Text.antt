@@ -1,0 +1,110 @@
+-- Text: the text point, the current font and its metrics, and characters.
+-- Assumes nothing.
+use mathlib.Core.List.{List, []}
+use mathlib.Core.Bool.{Bool, cond, not, _&&_, _||_}
+use Prim.Native.Nat.{ℕ, _+_, _-_, _*_}
+use lib.Dec.{eqb, leb}
+use lib.ListN.{drop}
+use Rattle.bitmap.specs.Bitmaps.{packedBox}
+use Rattle.scroll.specs.Scroll.{scrolled}
+use Rattle.fonts.specs.declared.Glyph.{Glyph}
+use Rattle.fonts.specs.declared.Glyph.the-variants.{At, Missing}
+use Rattle.fonts.specs.Fonts.{nominalWidth, heightOf, glyphOf}
+use Rattle.state.specs.declared.Text.{Text}
+use Rattle.rules.specs.World.{World, rows, port, withScreen, putText, Outcome, quietly, refused, refuseIf, arg}
+use Rattle.rules.specs.Fonts.{Opened, opened, shut, openFont}
+
+-- ---- settings
+
+abbrev pub textOf : ℕ → ℕ → ℕ → ℕ → ℕ → ℕ → ℕ → ℕ → Bool → Bool → Text
+textOf f x y l t cs ls sr w s =
+    record { font = f; x = x; y = y; left = l; top = t; «char_space» = cs; «line_space» = ls; «scroll_row» = sr; wrap = w; scroll = s }
+
+abbrev pub atPoint : Text → ℕ → ℕ → Text
+atPoint t x y = textOf (t .font) x y (t .left) (t .top) (t .«char_space») (t .«line_space») (t .«scroll_row») (t .wrap) (t .scroll)
+
+-- (left margin, top margin)
+abbrev pub home : Text → Text
+home t = atPoint t (t .left) (t .top)
+
+abbrev pub withFont : Text → ℕ → Text
+withFont t n = textOf n (t .x) (t .y) (t .left) (t .top) (t .«char_space») (t .«line_space») (t .«scroll_row») (t .wrap) (t .scroll)
+
+abbrev pub withWrap : Text → Bool → Text
+withWrap t b = textOf (t .font) (t .x) (t .y) (t .left) (t .top) (t .«char_space») (t .«line_space») (t .«scroll_row») b (t .scroll)
+
+abbrev pub withScroll : Text → Bool → Text
+withScroll t b = textOf (t .font) (t .x) (t .y) (t .left) (t .top) (t .«char_space») (t .«line_space») (t .«scroll_row») (t .wrap) b
+
+-- left, top, character space, line space, scroll row
+abbrev pub withMetrics : Text → List ℕ → Text
+withMetrics t a = textOf (t .font) (t .x) (t .y) (arg a 0) (arg a 1) (arg a 2) (arg a 3) (arg a 4) (t .wrap) (t .scroll)
+
+-- ---- commands
+
+-- the current font: 22, 23
+unfoldable pub fontChosen : World → ℕ → Opened → Outcome
+fontChosen w n (opened f) = quietly (putText w (withFont (port w .text) n))
+fontChosen w n (shut r) = refused r []
+
+unfoldable pub chooseFont : World → ℕ → Outcome
+chooseFont w n = fontChosen w n (openFont (rows w) (w .store) n)
+
+-- the text point by column and row, from 1, of a font's nominal width and height: 17
+abbrev pub placeX : Text → List ℕ → ℕ → ℕ
+placeX t f column = t .left + (column - 1) * (nominalWidth f + t .«char_space»)
+
+abbrev pub placeY : Text → List ℕ → ℕ → ℕ
+placeY t f row = t .top + (row - 1) * (heightOf f + t .«line_space»)
+
+unfoldable pub placeIn : World → ℕ → ℕ → Opened → Outcome
+placeIn w column row (shut r) = refused r []
+placeIn w column row (opened f) =
+    refuseIf (eqb column 0 || eqb row 0 || leb 240 (placeX (port w .text) f column) || leb (rows w) (placeY (port w .text) f row)) 17
+    (quietly (putText w (atPoint (port w .text) (placeX (port w .text) f column) (placeY (port w .text) f row))))
+
+unfoldable pub setPlace : World → ℕ → ℕ → Outcome
+setPlace w column row = placeIn w column row (openFont (rows w) (w .store) (port w .text .font))
+
+-- ---- characters
+
+-- where a character goes, and by how many rows the screen moves up first; or nowhere
+pub data Place : Type 0 where
+  place : ℕ → ℕ → ℕ → Place
+  nowhere : Place
+
+-- a character of width v in a font of height f that passes column 240: to the next line, on the screen moved up, or to the top
+unfoldable pub wrapped : Text → ℕ → ℕ → Place
+wrapped t v f =
+    cond (leb (t .x + v) 240) (place (t .x) (t .y) 0)
+    (cond (not (t .wrap)) nowhere
+    (cond (leb (t .y + f + t .«line_space» + f) (t .«scroll_row»)) (place (t .left) (t .y + f + t .«line_space») 0)
+    (cond (t .scroll) (place (t .left) (t .y) (f + t .«line_space»))
+    (place (t .left) (t .top) 0))))
+
+-- if the box then passes column 240 or the last row, there is no room
+unfoldable pub roomFor : ℕ → ℕ → ℕ → Place → Place
+roomFor h v f nowhere = nowhere
+roomFor h v f (place x y up) = cond (leb (x + v) 240 && leb (y + f) h) (place x y up) nowhere
+
+abbrev pub movedUp : ℕ → List ℕ → List ℕ
+movedUp n g = cond (eqb n 0) g (scrolled n g)
+
+-- the box is painted, and x grows by width and character space: 29
+unfoldable pub glyphAt : World → List ℕ → ℕ → ℕ → Place → Outcome
+glyphAt w f o v nowhere = refused 29 []
+glyphAt w f o v (place x y up) =
+    quietly (putText (withScreen w (packedBox x y v (heightOf f) (drop o f) (movedUp up (w .screen)))) (atPoint (port w .text) (x + v + port w .text .«char_space») y))
+
+-- 28
+unfoldable pub glyphOn : World → List ℕ → Glyph → Outcome
+glyphOn w f Missing = refused 28 []
+glyphOn w f (At o v) = glyphAt w f o v (roomFor (rows w) v (heightOf f) (wrapped (port w .text) v (heightOf f)))
+
+unfoldable pub characterIn : World → ℕ → Opened → Outcome
+characterIn w c (shut r) = refused r []
+characterIn w c (opened f) = glyphOn w f (glyphOf f c)
+
+-- any byte but 254 outside a command: 22, 23, 28, 29
+unfoldable pub character : World → ℕ → Outcome
+character w c = characterIn w c (openFont (rows w) (w .store) (port w .text .font))

@@ -1,0 +1,4 @@
+pub mod Commands
+pub mod Tests
+pub mod Parts
+pub mod Start

@@ -1,0 +1,20 @@
+-- `is_on_glass` meets its contract.
+-- Assumes nothing.
+use borrow.Author.Needs.{needs}
+use Rattle.state.proofs.sound.is_on_glass.Statement.{statement}
+use Rattle.state.proofs.sound.is_on_glass.Tie as tie
+
+both-requires : tie.Need-both-requires
+both-requires c κs = search needs
+
+both-requires-2 : tie.Need-both-requires-2
+both-requires-2 c κs = search needs
+
+both-requires-3 : tie.Need-both-requires-3
+both-requires-3 c κs = search needs
+
+returns : tie.Need-returns
+returns c = cc
+
+pub is-on-glass-spec : {M : Type 1} → statement M
+is-on-glass-spec = tie.close (tie.spec both-requires both-requires-2 both-requires-3 returns)

@@ -1,0 +1,246 @@
+// What the display remembers between bytes, by value: what belongs to one serial line (Port) and what belongs to the display (Panel).
+mod sound;
+
+use bar_graph::Bar;
+use queue::Flow;
+use sound::both;
+use sound::is_panel_sound;
+use sound::is_port_sound;
+ghost use mathlib.Core.Path.{_≡_};
+ghost use Rattle.state.specs.Commands.{commandOf, argumentsOf};
+ghost use Rattle.state.specs.Soundness.{soundState};
+
+pub enum Command {
+    Unknown,
+    Clear,
+    Home,
+    SetPoint,
+    SetPlace,
+    WrapOn,
+    WrapOff,
+    ScrollOn,
+    ScrollOff,
+    ChooseFont,
+    SetMetrics,
+    SetColour,
+    DrawPixel,
+    DrawLine,
+    ContinueLine,
+    DrawFrame,
+    FillRectangle,
+    SetUpBar,
+    WriteBar,
+    SetUpStrip,
+    ShiftStrip,
+    ShowBitmap,
+    DrawInline,
+    UploadFont,
+    UploadBitmap,
+    DeleteFile,
+    Purge,
+    FlowOn,
+    FlowOff,
+    SetContrast,
+    BacklightOn,
+    BacklightOff,
+    SetSerial,
+}
+
+// The command of a code.
+pub fn command_of(code: u8) -> Command
+    ensures { λ r. ⌜ r ≡ commandOf code ⌝ }
+{
+    match code {
+        33 => Command::Purge,
+        36 => Command::UploadFont,
+        49 => Command::ChooseFont,
+        50 => Command::SetMetrics,
+        52 => Command::SetSerial,
+        58 => Command::FlowOn,
+        59 => Command::FlowOff,
+        66 => Command::BacklightOn,
+        67 => Command::WrapOn,
+        68 => Command::WrapOff,
+        70 => Command::BacklightOff,
+        71 => Command::SetPlace,
+        72 => Command::Home,
+        80 => Command::SetContrast,
+        81 => Command::ScrollOn,
+        82 => Command::ScrollOff,
+        88 => Command::Clear,
+        94 => Command::UploadBitmap,
+        98 => Command::ShowBitmap,
+        99 => Command::SetColour,
+        100 => Command::DrawInline,
+        101 => Command::ContinueLine,
+        103 => Command::SetUpBar,
+        105 => Command::WriteBar,
+        106 => Command::SetUpStrip,
+        107 => Command::ShiftStrip,
+        108 => Command::DrawLine,
+        112 => Command::DrawPixel,
+        114 => Command::DrawFrame,
+        120 => Command::FillRectangle,
+        121 => Command::SetPoint,
+        173 => Command::DeleteFile,
+        _ => Command::Unknown,
+    }
+}
+
+// How many fixed arguments it has.
+pub fn arguments_of(command: Command) -> u8
+    ensures { λ r. ⌜ r ≡ argumentsOf command ⌝ }
+{
+    match command {
+        Command::Unknown => 0,
+        Command::Clear => 0,
+        Command::Home => 0,
+        Command::SetPoint => 2,
+        Command::SetPlace => 2,
+        Command::WrapOn => 0,
+        Command::WrapOff => 0,
+        Command::ScrollOn => 0,
+        Command::ScrollOff => 0,
+        Command::ChooseFont => 1,
+        Command::SetMetrics => 5,
+        Command::SetColour => 1,
+        Command::DrawPixel => 2,
+        Command::DrawLine => 4,
+        Command::ContinueLine => 2,
+        Command::DrawFrame => 5,
+        Command::FillRectangle => 5,
+        Command::SetUpBar => 6,
+        Command::WriteBar => 2,
+        Command::SetUpStrip => 5,
+        Command::ShiftStrip => 1,
+        Command::ShowBitmap => 3,
+        Command::DrawInline => 4,
+        Command::UploadFont => 3,
+        Command::UploadBitmap => 3,
+        Command::DeleteFile => 2,
+        Command::Purge => 2,
+        Command::FlowOn => 2,
+        Command::FlowOff => 0,
+        Command::SetContrast => 1,
+        Command::BacklightOn => 1,
+        Command::BacklightOff => 0,
+        Command::SetSerial => 2,
+    }
+}
+
+// What the line is in the middle of; at most one thing, since it is one of these.
+pub enum Phase {
+    Idle,
+    // 254 has come.
+    Prefix,
+    // A command's code has come, and `got` of its fixed arguments.
+    Gathering {
+        code: u8,
+        got: u8,
+    },
+    // Data in line for a rectangle: `done` bytes of it have come.
+    Inline {
+        x1: u8,
+        y1: u8,
+        x2: u8,
+        y2: u8,
+        done: u16,
+    },
+    // A file of `size` bytes, `stored` of them confirmed; `waiting` where `byte` was echoed and is not confirmed yet.
+    Upload {
+        kind: u8,
+        number: u8,
+        size: u16,
+        stored: u16,
+        waiting: bool,
+        byte: u8,
+    },
+}
+
+// Fixed arguments of a command, at most.
+pub const ARGUMENTS: usize = 6;
+
+pub struct Text {
+    pub font: u8,
+    pub x: u16,
+    pub y: u8,
+    pub left: u8,
+    pub top: u8,
+    pub char_space: u8,
+    pub line_space: u8,
+    pub scroll_row: u8,
+    pub wrap: bool,
+    pub scroll: bool,
+}
+
+// The drawing colour, and the point that the last line ended at.
+pub struct Drawing {
+    pub black: bool,
+    pub x: u8,
+    pub y: u8,
+}
+
+pub struct Refusals {
+    pub count: u16,
+    pub last: u8,
+}
+
+pub struct Port {
+    pub phase: Phase,
+    pub args: [u8; ARGUMENTS],
+    pub text: Text,
+    pub drawing: Drawing,
+    pub flow: Flow,
+    pub refusals: Refusals,
+}
+
+pub const BARS: usize = 16;
+
+pub const STRIPS: usize = 8;
+
+// `on` where it is set up.
+pub struct BarSlot {
+    pub on: bool,
+    pub bar: Bar,
+}
+
+pub struct Strip {
+    pub on: bool,
+    pub x1: u8,
+    pub y1: u8,
+    pub x2: u8,
+    pub y2: u8,
+}
+
+pub struct Serial {
+    pub on: bool,
+    pub a: u8,
+    pub b: u8,
+}
+
+pub struct Backlight {
+    pub on: bool,
+    pub minutes: u8,
+}
+
+pub struct Panel {
+    pub bars: [BarSlot; BARS],
+    pub strips: [Strip; STRIPS],
+    pub serial: Serial,
+    pub contrast: u8,
+    pub backlight: Backlight,
+}
+
+pub struct State {
+    pub port: Port,
+    pub panel: Panel,
+}
+
+// Whether a state is sound, on a glass of `height` rows.
+pub fn is_sound(s: State, height: u8) -> bool
+    ensures { λ r. ⌜ r ≡ soundState height s ⌝ }
+{
+    let port = s.port;
+    let panel = s.panel;
+    both(is_port_sound(port), is_panel_sound(panel, height))
+}
