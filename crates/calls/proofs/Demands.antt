@@ -3,12 +3,13 @@
 use mathlib.Core.Path.{_≡_, refl, sym, ap, _∙_, subst}
 use mathlib.Core.List.{List, []}
 use mathlib.Core.Bool.{Bool, true, false, cond, not, _&&_, _||_, true≢false}
-use Prim.Native.Nat.{ℕ, zero, suc, _+_, _/_, _%_, _<_}
+use Prim.Native.Nat.{ℕ, zero, suc, _+_, _/_, _%_, _<_, _≤_}
 use native.Mathlib.Omega.{arith}
 use lib.Dec.{eqb}
 use lib.ListN.{length, getD, replicate, length-replicate}
 use borrow.Author.Tests.{eq-eqb, eqb-true}
 use Rattle.pixels.specs.Framebuffer.{height}
+use Rattle.pixels.proofs.Tests.{by-test}
 use Rattle.bar_ledger.specs.Claim.{Agrees}
 use Rattle.directory.specs.Directory.{validOf}
 use Rattle.state.specs.declared.Phase.{Phase}
@@ -34,14 +35,16 @@ use Rattle.rules.specs.History.{refusedOf, lastOf}
 use Rattle.rules.specs.Chunks.{Chunk, joined, EnoughAll}
 use Rattle.rules.specs.Sound.{Bytes, Welcome, Good}
 use Rattle.rules.proofs.ByByte.{demand-3}
+use Rattle.rules.proofs.Replies.{said-fits}
 use Rattle.rules.proofs.Counts.{refusal-count, last-refusal}
 use Rattle.rules.proofs.GoodByte.{good-step, good-start, screen-length, store-length}
 use Rattle.calls.specs.Memory.{screenBytes, Memory, storeFits, uploadRefused, checked, loaded, saved}
-use Rattle.calls.specs.Feed.{fed, feedOf}
+use Rattle.calls.specs.Feed.{Fed, fed, feedOf}
+use Rattle.calls.specs.Line.{bothSound}
 use Rattle.calls.specs.Start.{startChecked, startOf}
-use Rattle.calls.specs.List.{Call, afterAll, consumedAll, sentAll, pieces}
+use Rattle.calls.specs.List.{Board, board, Call, afterAll, consumedAll, sentAll, pieces}
 use Rattle.calls.proofs.Bridge.{fits, port-fits, panel-fits}
-use Rattle.calls.proofs.Lists.{BytesInAll, streamed, consumed-whole}
+use Rattle.calls.proofs.Lists.{BytesInAll, both-true, streamed, consumed-whole}
 
 -- ---- worlds that every check passes
 
@@ -163,23 +166,24 @@ saved-loaded m e = rw (encode-decode 64 (m .state) (checks m e .state))
 -- ---- any list of calls
 
 -- WHAT HOLDS AFTER A LIST OF CALLS
-pub record Served (m : Memory) (cs : List Call) : Type 0 where
+pub record Served (b : Board) (cs : List Call) : Type 0 where
   -- the memory is what the bytes consumed leave, and what was sent is what they send: one stream, however it was cut
-  pub stream : afterAll m cs ≡ saved (run (loaded m) (consumedAll m cs))
-  pub sent : sentAll m cs ≡ said (loaded m) (consumedAll m cs)
+  pub stream : afterAll b cs .memory ≡ saved (run (loaded (b .memory)) (consumedAll b cs))
+  pub sent : sentAll b cs ≡ said (loaded (b .memory)) (consumedAll b cs)
   -- demand 3, after them all and after every byte
-  pub bars : Agrees view step event (loaded m) (consumedAll m cs)
+  pub bars : Agrees view step event (loaded (b .memory)) (consumedAll b cs)
   -- the history of refusals
-  pub count : decodeOf (afterAll m cs .state) .port .refusals .count ≡ (port (loaded m) .refusals .count + refusedOf (loaded m) (consumedAll m cs)) % 65536
-  pub last : decodeOf (afterAll m cs .state) .port .refusals .last ≡ lastOf (loaded m) (consumedAll m cs) (port (loaded m) .refusals .last)
-  -- the next call passes the checks again
-  pub again : checked (afterAll m cs) ≡ 0
+  pub count : decodeOf (afterAll b cs .memory .state) .port .refusals .count ≡ (port (loaded (b .memory)) .refusals .count + refusedOf (loaded (b .memory)) (consumedAll b cs)) % 65536
+  pub last : decodeOf (afterAll b cs .memory .state) .port .refusals .last ≡ lastOf (loaded (b .memory)) (consumedAll b cs) (port (loaded (b .memory)) .refusals .last)
+  -- the next call passes the checks again: a piece, and an arrival or a take
+  pub again : checked (afterAll b cs .memory) ≡ 0
+  pub line-again : bothSound (afterAll b cs .memory .state) (afterAll b cs .queue) ≡ true
 
-served-saved : (w : World) (cs : List Call) → Kept w → BytesInAll cs → Served (saved w) cs
-served-saved w cs k h =
-    let s = streamed Kept kept-step back pass w cs k h in
+served-saved : (w : World) (q : List ℕ) (cs : List Call) → Kept w → queue-record.soundRecord q ≡ true → BytesInAll cs → Served (board (saved w) q) cs
+served-saved w q cs k f h =
+    let s = streamed Kept kept-step back pass record-sound w q cs k f h in
     let d = back w k in
-    let l = consumedAll (saved w) cs in
+    let l = consumedAll (board (saved w) q) cs in
     let v = run w l in
     let z = k .good .panel-fits .sixteen in
     let c = k .good .port-fits .refusals .count in
@@ -191,20 +195,19 @@ served-saved w cs k h =
       count = rw d (ap (λ (r : Refusals). r .count) e ∙ refusal-count w l z c);
       last = rw d (ap (λ (r : Refusals). r .last) e ∙ last-refusal w l z c);
       again = ap checked (s .left) ∙ pass v (s .kept);
+      line-again = both-true _ _ (ap (λ (m : Memory). soundRecord 64 (m .state)) (s .left) ∙ record-sound v (s .kept)) (s .queue-kept);
     }
 
--- THE THEOREM, from any memory that passes the checks
-pub calls-served : (m : Memory) (cs : List Call) → ByteMemory m → checked m ≡ 0 → BytesInAll cs → Served m cs
-calls-served m cs b e h = subst (λ (n : Memory). Served n cs) (saved-loaded m e) (served-saved (loaded m) cs (checked-kept m b e) h)
+-- THE THEOREM, from any memory that passes the checks and any sound queue
+pub calls-served : (m : Memory) (q : List ℕ) (cs : List Call) → ByteMemory m → checked m ≡ 0 → queue-record.soundRecord q ≡ true → BytesInAll cs → Served (board m q) cs
+calls-served m q cs b e f h = subst (λ (n : Memory). Served (board n q) cs) (saved-loaded m e) (served-saved (loaded m) q cs (checked-kept m b e) f h)
 
 -- DEMAND 2: with two free reply bytes before each byte the pieces are consumed whole
-whole-saved : (w : World) (ps : List Chunk) → Kept w → BytesInAll (pieces ps) → EnoughAll w ps → consumedAll (saved w) (pieces ps) ≡ joined ps
-whole-saved w ps k h e = consumed-whole Kept kept-step back pass w ps k h e
-
-pub pieces-whole : (m : Memory) (ps : List Chunk) → ByteMemory m → checked m ≡ 0 → BytesInAll (pieces ps) → EnoughAll (loaded m) ps
-    → consumedAll m (pieces ps) ≡ joined ps
-pieces-whole m ps b e h t =
-    subst (λ (n : Memory). consumedAll n (pieces ps) ≡ joined ps) (saved-loaded m e) (whole-saved (loaded m) ps (checked-kept m b e) h t)
+pub pieces-whole : (m : Memory) (q : List ℕ) (ps : List Chunk) → ByteMemory m → checked m ≡ 0 → BytesInAll (pieces ps) → EnoughAll (loaded m) ps
+    → consumedAll (board m q) (pieces ps) ≡ joined ps
+pieces-whole m q ps b e h t =
+    subst (λ (n : Memory). consumedAll (board n q) (pieces ps) ≡ joined ps) (saved-loaded m e)
+    (consumed-whole Kept kept-step back pass record-sound (loaded m) q ps (checked-kept m b e) h t)
 
 -- a piece refused with 1 to 4 alters nothing, consumes nothing and sends nothing
 pub refused-untouched : (m : Memory) (p : List ℕ) (room : ℕ) → eqb (checked m) 0 ≡ false → feedOf m p room ≡ fed m (checked m) 0 []
@@ -215,6 +218,11 @@ refused-untouched m p room e = rw e
 pub passed-answers : (m : Memory) (p : List ℕ) (room : ℕ) → checked m ≡ 0 → feedOf m p room .answer ≡ cond (eqb (feedOf m p room .consumed) (length p)) 0 5
 unfolding feedOf
 passed-answers m p room e = rw e
+
+-- no piece sends more than its reply room
+pub sent-fits : (m : Memory) (p : List ℕ) (room : ℕ) → length (feedOf m p room .sent) ≤ room
+unfolding feedOf
+sent-fits m p room = by-test (λ (f : Fed). length (f .sent) ≤ room) (eqb (checked m) 0) _ _ (λ _. said-fits (loaded m) room p) (λ _. omega arith)
 
 -- ---- the start
 

@@ -1,5 +1,5 @@
 pub mod Examples
+pub mod LineCalls
 pub mod Lists
 pub mod Bridge
 pub mod Demands
-pub mod LineCalls

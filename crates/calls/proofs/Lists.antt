@@ -1,6 +1,7 @@
 -- Lists of calls are streams of the bytes consumed, whatever the pieces and their reply room.
 -- Assumes nothing.
 use mathlib.Core.Path.{_≡_, refl, sym, ap, _∙_, subst}
+use mathlib.Core.Bool.{Bool, true, _&&_}
 use mathlib.Core.List.{List, [], _∷_, _++_}
 use Prim.Native.Nat.{ℕ, zero, suc, _<_}
 use native.Mathlib.Omega.{arith}
@@ -8,6 +9,8 @@ use lib.ListN.{length, take}
 use lib.Seq.{take-all}
 use Rattle.record.specs.Reading.{decodeOf}
 use Rattle.record.specs.Writing.{encodeOf}
+use Rattle.record.specs.Record.{soundRecord}
+use Rattle.queue.specs.Record as queue-record
 use Rattle.rules.specs.World.{World}
 use Rattle.rules.specs.Step.{step}
 use Rattle.rules.specs.Calls.{run, said, taken}
@@ -15,7 +18,9 @@ use Rattle.rules.specs.Chunks.{Chunk, joined, EnoughAll}
 use Rattle.rules.proofs.Streams.{run-append, said-append, taken-whole}
 use Rattle.calls.specs.Memory.{checked, loaded, saved}
 use Rattle.calls.specs.Feed.{Fed, fedBytes, feedOf}
-use Rattle.calls.specs.List.{Call, feeds, serves, afterAll, consumedAll, sentAll, pieces}
+use Rattle.calls.specs.Line.{bothSound, arriveCall, takeCall}
+use Rattle.calls.specs.List.{board, Call, feeds, arrives, takes, afterAll, consumedAll, sentAll, pieces}
+use Rattle.calls.proofs.LineCalls.{arrive-again, take-again}
 
 -- bytes handed in
 abbrev pub AllBytes : List ℕ → Type 0
@@ -24,7 +29,8 @@ AllBytes (b ∷ l) = (b < 256) × AllBytes l
 
 abbrev pub BytesIn : Call → Type 0
 BytesIn (feeds p room) = AllBytes p
-BytesIn serves = Unit {0}
+BytesIn (arrives x) = x < 256
+BytesIn takes = Unit {0}
 
 abbrev pub BytesInAll : List Call → Type 0
 BytesInAll [] = Unit {0}
@@ -35,9 +41,13 @@ take-bytes zero l h = tt
 take-bytes (suc n) [] h = tt
 take-bytes (suc n) (b ∷ l) h = (h .0, take-bytes n l (h .1))
 
+pub both-true : (a b : Bool) → a ≡ true → b ≡ true → (a && b) ≡ true
+both-true a b e f = rw (e, f)
+
 -- what is kept by every byte, is written and read back, and passes the checks
 module _ (Good : World → Type 0) (good : (w : World) (b : ℕ) → Good w → b < 256 → Good (step w b))
-    (back : (w : World) → Good w → decodeOf (encodeOf (w .state)) ≡ w .state) (pass : (w : World) → Good w → checked (saved w) ≡ 0) where
+    (back : (w : World) → Good w → decodeOf (encodeOf (w .state)) ≡ w .state) (pass : (w : World) → Good w → checked (saved w) ≡ 0)
+    (sound : (w : World) → Good w → soundRecord 64 (encodeOf (w .state)) ≡ true) where
   pub good-run : (w : World) (l : List ℕ) → Good w → AllBytes l → Good (run w l)
   unfolding run
   good-run w [] g h = g
@@ -51,48 +61,62 @@ module _ (Good : World → Type 0) (good : (w : World) (b : ℕ) → Good w → 
   unfolding feedOf
   fed-saved w p room g = rw (pass w g, read-back w g)
 
+  line-sound : (w : World) (q : List ℕ) → Good w → queue-record.soundRecord q ≡ true → bothSound (encodeOf (w .state)) q ≡ true
+  line-sound w q g s = both-true (soundRecord 64 (encodeOf (w .state))) (queue-record.soundRecord q) (sound w g) s
+
   -- what a list of calls leaves and sends is what the stream of the bytes consumed leaves and sends
-  pub record Streamed (w : World) (cs : List Call) : Type 0 where
-    pub left : afterAll (saved w) cs ≡ saved (run w (consumedAll (saved w) cs))
-    pub sent : sentAll (saved w) cs ≡ said w (consumedAll (saved w) cs)
-    pub kept : Good (run w (consumedAll (saved w) cs))
+  pub record Streamed (w : World) (q : List ℕ) (cs : List Call) : Type 0 where
+    pub left : afterAll (board (saved w) q) cs .memory ≡ saved (run w (consumedAll (board (saved w) q) cs))
+    pub sent : sentAll (board (saved w) q) cs ≡ said w (consumedAll (board (saved w) q) cs)
+    pub kept : Good (run w (consumedAll (board (saved w) q) cs))
+    pub queue-kept : queue-record.soundRecord (afterAll (board (saved w) q) cs .queue) ≡ true
 
   -- one piece, and then the rest
-  record Pieced (w : World) (p : List ℕ) (cs : List Call) (f : Fed) : Type 0 where
-    pub left : afterAll (f .left) cs ≡ saved (run w (take (f .consumed) p ++ consumedAll (f .left) cs))
-    pub sent : f .sent ++ sentAll (f .left) cs ≡ said w (take (f .consumed) p ++ consumedAll (f .left) cs)
-    pub kept : Good (run w (take (f .consumed) p ++ consumedAll (f .left) cs))
+  record Pieced (w : World) (p q : List ℕ) (cs : List Call) (f : Fed) : Type 0 where
+    pub left : afterAll (board (f .left) q) cs .memory ≡ saved (run w (take (f .consumed) p ++ consumedAll (board (f .left) q) cs))
+    pub sent : f .sent ++ sentAll (board (f .left) q) cs ≡ said w (take (f .consumed) p ++ consumedAll (board (f .left) q) cs)
+    pub kept : Good (run w (take (f .consumed) p ++ consumedAll (board (f .left) q) cs))
+    pub queue-kept : queue-record.soundRecord (afterAll (board (f .left) q) cs .queue) ≡ true
 
-  pieced : (w : World) (p : List ℕ) (n : ℕ) (cs : List Call) → Streamed (run w (take n p)) cs → Pieced w p cs (fedBytes w p n)
-  pieced w p n cs i =
-      let q = take n p in
-      let a = run-append w q (consumedAll (saved (run w q)) cs) in
+  pieced : (w : World) (p q : List ℕ) (n : ℕ) (cs : List Call) → Streamed (run w (take n p)) q cs → Pieced w p q cs (fedBytes w p n)
+  pieced w p q n cs i =
+      let t = take n p in
+      let r = consumedAll (board (saved (run w t)) q) cs in
+      let a = run-append w t r in
       record {
         left = i .left ∙ ap saved (sym a);
-        sent = ap (λ (l : List ℕ). said w q ++ l) (i .sent) ∙ sym (said-append w q (consumedAll (saved (run w q)) cs));
+        sent = ap (λ (l : List ℕ). said w t ++ l) (i .sent) ∙ sym (said-append w t r);
         kept = rw a (i .kept);
+        queue-kept = i .queue-kept;
       }
 
-  pub streamed : (w : World) (cs : List Call) → Good w → BytesInAll cs → Streamed w cs
+  pub streamed : (w : World) (q : List ℕ) (cs : List Call) → Good w → queue-record.soundRecord q ≡ true → BytesInAll cs → Streamed w q cs
   unfolding afterAll consumedAll sentAll run said
-  streamed w [] g h = record { left = refl; sent = refl; kept = g }
-  streamed w (serves ∷ cs) g h = let i = streamed w cs g (h .1) in record { left = i .left; sent = i .sent; kept = i .kept }
-  streamed w (feeds p room ∷ cs) g h =
+  streamed w q [] g s h = record { left = refl; sent = refl; kept = g; queue-kept = s }
+  streamed w q (arrives x ∷ cs) g s h =
+      let i = streamed w (arriveCall (encodeOf (w .state)) q x .queue) cs g (arrive-again (encodeOf (w .state)) q x (line-sound w q g s)) (h .1) in
+      record { left = i .left; sent = i .sent; kept = i .kept; queue-kept = i .queue-kept }
+  streamed w q (takes ∷ cs) g s h =
+      let i = streamed w (takeCall (encodeOf (w .state)) q .queue) cs g (take-again (encodeOf (w .state)) q (line-sound w q g s)) (h .1) in
+      record { left = i .left; sent = i .sent; kept = i .kept; queue-kept = i .queue-kept }
+  streamed w q (feeds p room ∷ cs) g s h =
       let n = taken w room p in
-      let i = streamed (run w (take n p)) cs (good-run w (take n p) g (take-bytes n p (h .0))) (h .1) in
-      let t = subst (λ (f : Fed). Pieced w p cs f) (sym (fed-saved w p room g)) (pieced w p n cs i) in
-      record { left = t .left; sent = t .sent; kept = t .kept }
+      let i = streamed (run w (take n p)) q cs (good-run w (take n p) g (take-bytes n p (h .0))) s (h .1) in
+      let t = subst (λ (f : Fed). Pieced w p q cs f) (sym (fed-saved w p room g)) (pieced w p q n cs i) in
+      record { left = t .left; sent = t .sent; kept = t .kept; queue-kept = t .queue-kept }
 
   -- pieces with two free reply bytes before each byte are consumed whole
-  whole-then : (w : World) (p : List ℕ) (n : ℕ) (ps : List Chunk) (f : Fed) → f ≡ fedBytes w p n → take n p ≡ p → consumedAll (saved (run w p)) (pieces ps) ≡ joined ps
-      → take (f .consumed) p ++ consumedAll (f .left) (pieces ps) ≡ p ++ joined ps
-  whole-then w p n ps f e t i = rw (e, t) (ap (λ (l : List ℕ). p ++ l) i)
+  whole-then : (w : World) (p q : List ℕ) (n : ℕ) (ps : List Chunk) (f : Fed) → f ≡ fedBytes w p n → take n p ≡ p
+      → consumedAll (board (saved (run w p)) q) (pieces ps) ≡ joined ps → take (f .consumed) p ++ consumedAll (board (f .left) q) (pieces ps) ≡ p ++ joined ps
+  whole-then w p q n ps f e t i = rw (e, t) (ap (λ (l : List ℕ). p ++ l) i)
 
-  pub consumed-whole : (w : World) (ps : List Chunk) → Good w → BytesInAll (pieces ps) → EnoughAll w ps → consumedAll (saved w) (pieces ps) ≡ joined ps
+  pub consumed-whole : (w : World) (q : List ℕ) (ps : List Chunk) → Good w → BytesInAll (pieces ps) → EnoughAll w ps
+      → consumedAll (board (saved w) q) (pieces ps) ≡ joined ps
   unfolding pieces joined EnoughAll consumedAll
-  consumed-whole w [] g h e = refl
-  consumed-whole w (c ∷ ps) g h e =
+  consumed-whole w q [] g h e = refl
+  consumed-whole w q (c ∷ ps) g h e =
       let p = c .bytes in
       let n = taken w (c .room) p in
       let t : take n p ≡ p = ap (λ (k : ℕ). take k p) (taken-whole w (c .room) p (e .0)) ∙ take-all (length p) p (omega arith) in
-      whole-then w p n ps (feedOf (saved w) p (c .room)) (fed-saved w p (c .room) g) t (consumed-whole (run w p) ps (good-run w p g (h .0)) (h .1) (e .1))
+      let i = consumed-whole (run w p) q ps (good-run w p g (h .0)) (h .1) (e .1) in
+      whole-then w p q n ps (feedOf (saved w) p (c .room)) (fed-saved w p (c .room) g) t i

@@ -1,4 +1,4 @@
--- Lists of calls: each gets the memory that the last one left.
+-- Lists of calls: each gets the memory and the queue record that the last one left.
 -- Assumes nothing.
 use mathlib.Core.List.{List, [], _∷_, _++_}
 use Prim.Native.Nat.{ℕ}
@@ -6,36 +6,49 @@ use lib.ListN.{take}
 use Rattle.rules.specs.Chunks.{Chunk}
 use Rattle.calls.specs.Memory.{Memory}
 use Rattle.calls.specs.Feed.{feedOf}
+use Rattle.calls.specs.Line.{arriveCall, takeCall}
 
--- a piece with its reply room; or a call that leaves screen, store and state record as they are: an arrival, a take, a piece refused for the lengths it was lent
+-- everything that the library keeps for its caller
+pub record Board : Type 0 where
+  pub memory : Memory
+  pub queue : List ℕ
+
+abbrev pub board : Memory → List ℕ → Board
+board m q = record { memory = m; queue = q }
+
+-- a piece with its reply room, a byte that arrives, or a byte taken
 pub data Call : Type 0 where
   feeds : List ℕ → ℕ → Call
-  serves : Call
+  arrives : ℕ → Call
+  takes : Call
 
-abbrev pub afterCall : Memory → Call → Memory
-afterCall m (feeds p room) = feedOf m p room .left
-afterCall m serves = m
+abbrev pub afterCall : Board → Call → Board
+afterCall b (feeds p room) = board (feedOf (b .memory) p room .left) (b .queue)
+afterCall b (arrives x) = board (b .memory) (arriveCall (b .memory .state) (b .queue) x .queue)
+afterCall b takes = board (b .memory) (takeCall (b .memory .state) (b .queue) .queue)
 
 -- the bytes that the answer counts as consumed
-abbrev pub consumedBy : Memory → Call → List ℕ
-consumedBy m (feeds p room) = take (feedOf m p room .consumed) p
-consumedBy m serves = []
+abbrev pub consumedBy : Board → Call → List ℕ
+consumedBy b (feeds p room) = take (feedOf (b .memory) p room .consumed) p
+consumedBy b (arrives x) = []
+consumedBy b takes = []
 
-abbrev pub sentBy : Memory → Call → List ℕ
-sentBy m (feeds p room) = feedOf m p room .sent
-sentBy m serves = []
+abbrev pub sentBy : Board → Call → List ℕ
+sentBy b (feeds p room) = feedOf (b .memory) p room .sent
+sentBy b (arrives x) = []
+sentBy b takes = []
 
-unfoldable pub afterAll : Memory → List Call → Memory
-afterAll m [] = m
-afterAll m (c ∷ cs) = afterAll (afterCall m c) cs
+unfoldable pub afterAll : Board → List Call → Board
+afterAll b [] = b
+afterAll b (c ∷ cs) = afterAll (afterCall b c) cs
 
-unfoldable pub consumedAll : Memory → List Call → List ℕ
-consumedAll m [] = []
-consumedAll m (c ∷ cs) = consumedBy m c ++ consumedAll (afterCall m c) cs
+unfoldable pub consumedAll : Board → List Call → List ℕ
+consumedAll b [] = []
+consumedAll b (c ∷ cs) = consumedBy b c ++ consumedAll (afterCall b c) cs
 
-unfoldable pub sentAll : Memory → List Call → List ℕ
-sentAll m [] = []
-sentAll m (c ∷ cs) = sentBy m c ++ sentAll (afterCall m c) cs
+unfoldable pub sentAll : Board → List Call → List ℕ
+sentAll b [] = []
+sentAll b (c ∷ cs) = sentBy b c ++ sentAll (afterCall b c) cs
 
 -- a stream handed in as these pieces
 unfoldable pub pieces : List Chunk → List Call

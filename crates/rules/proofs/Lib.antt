@@ -1,6 +1,7 @@
 pub mod Examples
 pub mod Refusals
 pub mod Streams
+pub mod Replies
 pub mod Obeying
 pub mod ByCommand
 pub mod ByByte
