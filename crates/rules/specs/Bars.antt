@@ -4,13 +4,14 @@ use mathlib.Core.Bool.{Bool, true, not, _&&_}
 use Prim.Native.Nat.{ℕ, _%_}
 use lib.Dec.{leb, ltb}
 use lib.ListN.{set}
+use Rattle.pixels.specs.Framebuffer.{width}
 use Rattle.bar_graph.specs.Bars.{writeOf, writtenBar}
 use Rattle.strip_chart.specs.Strips.{shiftedStrip}
 use Rattle.state.specs.State.{barOf, barSlot, strip, barAt, stripAt, withBars, withStrips}
 use Rattle.rules.specs.World.{World, rows, panel, withScreen, withPanel, Outcome, quietly, refuseIf}
 
 abbrev pub onScreen : World → ℕ → ℕ → ℕ → ℕ → Bool
-onScreen w x1 y1 x2 y2 = ltb x1 240 && ltb x2 240 && ltb y1 (rows w) && ltb y2 (rows w)
+onScreen w x1 y1 x2 y2 = ltb x1 width && ltb x2 width && ltb y1 (rows w) && ltb y2 (rows w)
 
 -- corners in order, and no side of one pixel: x1 < x2, y1 < y2
 abbrev pub apart : ℕ → ℕ → ℕ → ℕ → Bool

@@ -5,6 +5,7 @@ use mathlib.Core.Bool.{Bool, cond, not, _&&_, _||_}
 use Prim.Native.Nat.{ℕ, _+_, _-_, _*_}
 use lib.Dec.{eqb, leb}
 use lib.ListN.{drop}
+use Rattle.pixels.specs.Framebuffer.{width}
 use Rattle.bitmap.specs.Bitmaps.{packedBox}
 use Rattle.scroll.specs.Scroll.{scrolled}
 use Rattle.fonts.specs.declared.Glyph.{Glyph}
@@ -60,7 +61,7 @@ placeY t f row = t .top + (row - 1) * (heightOf f + t .«line_space»)
 unfoldable pub placeIn : World → ℕ → ℕ → Opened → Outcome
 placeIn w column row (shut r) = refused r []
 placeIn w column row (opened f) =
-    refuseIf (eqb column 0 || eqb row 0 || leb 240 (placeX (port w .text) f column) || leb (rows w) (placeY (port w .text) f row)) 17
+    refuseIf (eqb column 0 || eqb row 0 || leb width (placeX (port w .text) f column) || leb (rows w) (placeY (port w .text) f row)) 17
     (quietly (putText w (atPoint (port w .text) (placeX (port w .text) f column) (placeY (port w .text) f row))))
 
 unfoldable pub setPlace : World → ℕ → ℕ → Outcome
@@ -73,19 +74,19 @@ pub data Place : Type 0 where
   place : ℕ → ℕ → ℕ → Place
   nowhere : Place
 
--- a character of width v in a font of height f that passes column 240: to the next line, on the screen moved up, or to the top
+-- a character of width v in a font of height f that passes the last column: to the next line, on the screen moved up, or to the top
 unfoldable pub wrapped : Text → ℕ → ℕ → Place
 wrapped t v f =
-    cond (leb (t .x + v) 240) (place (t .x) (t .y) 0)
+    cond (leb (t .x + v) width) (place (t .x) (t .y) 0)
     (cond (not (t .wrap)) nowhere
     (cond (leb (t .y + f + t .«line_space» + f) (t .«scroll_row»)) (place (t .left) (t .y + f + t .«line_space») 0)
     (cond (t .scroll) (place (t .left) (t .y) (f + t .«line_space»))
     (place (t .left) (t .top) 0))))
 
--- if the box then passes column 240 or the last row, there is no room
+-- if the box then passes the last column or the last row, there is no room
 unfoldable pub roomFor : ℕ → ℕ → ℕ → Place → Place
 roomFor h v f nowhere = nowhere
-roomFor h v f (place x y up) = cond (leb (x + v) 240 && leb (y + f) h) (place x y up) nowhere
+roomFor h v f (place x y up) = cond (leb (x + v) width && leb (y + f) h) (place x y up) nowhere
 
 abbrev pub movedUp : ℕ → List ℕ → List ℕ
 movedUp n g = cond (eqb n 0) g (scrolled n g)

@@ -6,6 +6,7 @@ use mathlib.Core.Bool.{Bool, true, cond, _&&_, _||_}
 use Prim.Native.Nat.{ℕ, _+_, _-_, _*_}
 use lib.Dec.{eqb, leb, ltb}
 use lib.ListN.{drop}
+use Rattle.pixels.specs.Framebuffer.{width}
 use Rattle.bar_graph.specs.declared.Bar.{Bar}
 use Rattle.bar_graph.specs.Bars.{lengthOf}
 use Rattle.bitmap.specs.Bitmaps.{rowBytes}
@@ -60,7 +61,7 @@ soundPort p =
 
 -- on the glass, with x1 < x2 and y1 < y2
 abbrev pub onGlass : ℕ → ℕ → ℕ → ℕ → ℕ → Bool
-onGlass h x1 y1 x2 y2 = ltb x1 x2 && ltb y1 y2 && ltb x2 240 && ltb y2 h
+onGlass h x1 y1 x2 y2 = ltb x1 x2 && ltb y1 y2 && ltb x2 width && ltb y2 h
 
 -- on the glass, its value at most its length, its type 0 to 3
 unfoldable pub soundSetUp : ℕ → Bar → Bool
