@@ -11,7 +11,7 @@ use borrow.Author.Tests.{lt-ltb, le-ltb}
 use Rattle.rules.specs.World.{World}
 use Rattle.rules.specs.Step.{step, replies}
 use Rattle.rules.specs.Calls.{run, said, taken}
-use Rattle.rules.specs.Chunks.{Chunk, fedBytes, fed, fedAll, saidAll, joined, Enough, EnoughAll}
+use Rattle.rules.specs.Chunks.{Chunk, fedBytes, fedAll, saidAll, joined, Enough, EnoughAll}
 
 -- one part of a stream after another
 pub run-append : (w : World) (l m : List ℕ) → run w (l ++ m) ≡ run (run w l) m
@@ -50,15 +50,3 @@ demand-2 w (p ∷ ps) e =
     let q = fed-whole w p (e .0) in
     let i = demand-2 (run w (p .bytes)) ps (e .1) in
     (rw q (i .0 ∙ sym (run-append w (p .bytes) (joined ps))), rw (q, i .1) (sym (said-append w (p .bytes) (joined ps))))
-
--- a list of pieces with any room at all: the world is that of the bytes taken
-unfoldable pub eaten : World → List Chunk → List ℕ
-eaten w [] = []
-eaten w (p ∷ ps) = fedBytes w p ++ eaten (fed w p) ps
-
-pub fed-is : (w : World) (ps : List Chunk) → (fedAll w ps ≡ run w (eaten w ps)) × (saidAll w ps ≡ said w (eaten w ps))
-unfolding fedAll saidAll eaten run said
-fed-is w [] = (refl, refl)
-fed-is w (p ∷ ps) =
-    let i = fed-is (fed w p) ps in
-    (i .0 ∙ sym (run-append w (fedBytes w p) (eaten (fed w p) ps)), rw (i .1) (sym (said-append w (fedBytes w p) (eaten (fed w p) ps))))
