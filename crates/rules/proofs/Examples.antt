@@ -54,13 +54,10 @@ pub delete-order : (deleteFile blank 2 1 ≡ refused 20 []) × (deleteFile blank
 unfolding deleteFile hasFile entriesFrom readFrom stepAt directory.lengthOf
 delete-order = (refl, refl)
 
-pub purge-bytes : (purge blank 89 89 ≡ refused 20 []) × (purge blank 33 33 ≡ refused 20 [])
-unfolding purge
-purge-bytes = (refl, refl)
-
-pub thresholds : flowOn blank 40 40 ≡ refused 27 []
-unfolding flowOn
-thresholds = refl
+-- both purge bytes are looked at; thresholds that sum to 80 are too many
+pub limits : (purge blank 89 89 ≡ refused 20 []) × (purge blank 33 33 ≡ refused 20 []) × (flowOn blank 40 40 ≡ refused 27 [])
+unfolding purge flowOn
+limits = (refl, refl, refl)
 
 -- a second 254 is an unknown code; a bitmap that is not there ends its command at the number
 pub early-ends : (code blank 254 ≡ refused 16 []) × (argument blank 98 0 7 ≡ refused 22 [])
