@@ -1,0 +1,116 @@
+-- The rules of these commands, each way by itself.
+-- Assumes nothing.
+use mathlib.Core.Path.{_≡_, _∙_, refl, ap}
+use mathlib.Core.Bool.{Bool, true, false, not, _&&_}
+use mathlib.Core.List.{List, []}
+use native.Mathlib.Omega.{arith}
+use Prim.Native.Nat.{ℕ, _%_, _<_, _≤_}
+use lib.Dec.{leb, ltb}
+use lib.ListN.{set}
+use borrow.Author.Tests.{lt-ltb, le-ltb, le-leb, lt-leb}
+use Rattle.pixels.specs.Framebuffer.{width, height}
+use Rattle.bar_graph.specs.declared.Bar.{Bar}
+use Rattle.bar_graph.specs.Bars.{writeOf, writtenBar}
+use Rattle.strip_chart.specs.Strips.{shiftedStrip}
+use Rattle.state.specs.declared.State.{State}
+use Rattle.state.specs.declared.Strip.{Strip}
+use Rattle.state.specs.declared.BarSlot.{BarSlot}
+use Rattle.state.specs.State.{barOf, strip, barAt, stripAt}
+use Rattle.rules.specs.World.{World, world, rows, panel, quietly, refused}
+use Rattle.rules.specs.Bars.{onScreen, apart, setUpBar, writeBar, setUpStrip, shiftStrip}
+use Rattle.graphs.specs.Graphs.{onScreenOf, withBarOf, withStripOf}
+
+-- ---- the tests
+
+module _ (h x1 y1 x2 y2 : ℕ) where
+  pub left-off : width ≤ x1 → false ≡ onScreenOf h x1 y1 x2 y2
+  left-off a = rw (le-ltb x1 width a)
+
+  pub right-off : x1 < width → width ≤ x2 → false ≡ onScreenOf h x1 y1 x2 y2
+  right-off a b = rw (lt-ltb x1 width a, le-ltb x2 width b)
+
+  pub top-off : x1 < width → x2 < width → h ≤ y1 → false ≡ onScreenOf h x1 y1 x2 y2
+  top-off a b d = rw (lt-ltb x1 width a, lt-ltb x2 width b, le-ltb y1 h d)
+
+  pub bottom-is : x1 < width → x2 < width → y1 < h → ltb y2 h ≡ onScreenOf h x1 y1 x2 y2
+  bottom-is a b d = rw (lt-ltb x1 width a, lt-ltb x2 width b, lt-ltb y1 h d)
+
+pub apart-not : (x1 y1 x2 y2 : ℕ) → x2 ≤ x1 → false ≡ apart x1 y1 x2 y2
+apart-not x1 y1 x2 y2 a = rw (le-ltb x1 x2 a)
+
+pub apart-rows : (x1 y1 x2 y2 : ℕ) → x1 < x2 → ltb y1 y2 ≡ apart x1 y1 x2 y2
+apart-rows x1 y1 x2 y2 a = rw (lt-ltb x1 x2 a)
+
+-- ---- set up
+
+module _ (g s : List ℕ) (st : State) (h n i k x1 y1 x2 y2 : ℕ) (tall : height g ≡ h) (number : i ≡ n) where
+  pub bar-19 : 16 ≤ i → setUpBar (world g s st) n k x1 y1 x2 y2 ≡ refused 19 []
+  unfolding setUpBar
+  bar-19 a = rw (le-leb 16 n (omega arith))
+
+  pub bar-20 : i < 16 → 4 ≤ k → setUpBar (world g s st) n k x1 y1 x2 y2 ≡ refused 20 []
+  unfolding setUpBar
+  bar-20 a b = rw (lt-leb 16 n (omega arith), le-leb 4 k b)
+
+  pub bar-17 : (t : Bool) → i < 16 → k < 4 → t ≡ onScreenOf h x1 y1 x2 y2 → not t ≡ true → setUpBar (world g s st) n k x1 y1 x2 y2 ≡ refused 17 []
+  unfolding setUpBar
+  bar-17 t a b d e = rw (lt-leb 16 n (omega arith), lt-leb 4 k b, tall, ← d, e)
+
+  pub bar-18 : (t u : Bool) → i < 16 → k < 4 → t ≡ onScreenOf h x1 y1 x2 y2 → not t ≡ false → u ≡ apart x1 y1 x2 y2 → not u ≡ true
+      → setUpBar (world g s st) n k x1 y1 x2 y2 ≡ refused 18 []
+  unfolding setUpBar
+  bar-18 t u a b d e f o = rw (lt-leb 16 n (omega arith), lt-leb 4 k b, tall, ← d, e, ← f, o)
+
+  pub bar-done : (t u : Bool) → i < 16 → k < 4 → t ≡ onScreenOf h x1 y1 x2 y2 → not t ≡ false → u ≡ apart x1 y1 x2 y2 → not u ≡ false
+      → setUpBar (world g s st) n k x1 y1 x2 y2 ≡ quietly (world g s (withBarOf st i (barOf k x1 y1 x2 y2 0)))
+  unfolding setUpBar
+  bar-done t u a b d e f o = rw (lt-leb 16 n (omega arith), lt-leb 4 k b, tall, ← d, e, ← f, o, number)
+
+  pub strip-19 : 8 ≤ i → setUpStrip (world g s st) n x1 y1 x2 y2 ≡ refused 19 []
+  unfolding setUpStrip
+  strip-19 a = rw (le-leb 8 n (omega arith))
+
+  pub strip-17 : (t : Bool) → i < 8 → t ≡ onScreenOf h x1 y1 x2 y2 → not t ≡ true → setUpStrip (world g s st) n x1 y1 x2 y2 ≡ refused 17 []
+  unfolding setUpStrip
+  strip-17 t a d e = rw (lt-leb 8 n (omega arith), tall, ← d, e)
+
+  pub strip-18 : (t u : Bool) → i < 8 → t ≡ onScreenOf h x1 y1 x2 y2 → not t ≡ false → u ≡ apart x1 y1 x2 y2 → not u ≡ true
+      → setUpStrip (world g s st) n x1 y1 x2 y2 ≡ refused 18 []
+  unfolding setUpStrip
+  strip-18 t u a d e f o = rw (lt-leb 8 n (omega arith), tall, ← d, e, ← f, o)
+
+  pub strip-done : (t u : Bool) → i < 8 → t ≡ onScreenOf h x1 y1 x2 y2 → not t ≡ false → u ≡ apart x1 y1 x2 y2 → not u ≡ false
+      → setUpStrip (world g s st) n x1 y1 x2 y2 ≡ quietly (world g s (withStripOf st i (strip true x1 y1 x2 y2)))
+  unfolding setUpStrip
+  strip-done t u a d e f o = rw (lt-leb 8 n (omega arith), tall, ← d, e, ← f, o, number)
+
+-- ---- writes and shifts
+
+module _ (g s : List ℕ) (st : State) (n i v : ℕ) (number : i ≡ n) where
+  pub write-19 : 16 ≤ i → writeBar (world g s st) n v ≡ refused 19 []
+  unfolding writeBar
+  write-19 a = rw (le-leb 16 n (omega arith))
+
+  pub write-21 : i < 16 → not (barAt (st .panel) i .on) ≡ true → writeBar (world g s st) n v ≡ refused 21 []
+  unfolding writeBar
+  write-21 a e = rw (lt-leb 16 n (omega arith), ← number, e)
+
+  pub write-done : (g' : List ℕ) (b : Bar) → i < 16 → not (barAt (st .panel) i .on) ≡ false → b ≡ writtenBar (barAt (st .panel) i .bar) v
+      → g' ≡ writeOf (barAt (st .panel) i .bar) v g → writeBar (world g s st) n v ≡ quietly (world g' s (withBarOf st i b))
+  unfolding writeBar
+  write-done g' b a e d f = rw (lt-leb 16 n (omega arith), ← number, e, d, f)
+
+module _ (g s : List ℕ) (st : State) (b i : ℕ) (number : i ≡ b % 128) where
+  pub shift-19 : 8 ≤ i → shiftStrip (world g s st) b ≡ refused 19 []
+  unfolding shiftStrip
+  shift-19 a = rw (le-leb 8 (b % 128) (omega (arith, number)))
+
+  pub shift-21 : i < 8 → not (stripAt (st .panel) i .on) ≡ true → shiftStrip (world g s st) b ≡ refused 21 []
+  unfolding shiftStrip
+  shift-21 a e = rw (← number, lt-leb 8 i a, e)
+
+  pub shift-done : (g' : List ℕ) → i < 8 → not (stripAt (st .panel) i .on) ≡ false
+      → g' ≡ shiftedStrip (leb 128 b) (stripAt (st .panel) i .x1) (stripAt (st .panel) i .y1) (stripAt (st .panel) i .x2) (stripAt (st .panel) i .y2) g
+      → shiftStrip (world g s st) b ≡ quietly (world g' s st)
+  unfolding shiftStrip
+  shift-done g' a e f = rw (← number, lt-leb 8 i a, e, f)

@@ -1,0 +1,20 @@
+-- A rectangle on a screen of h rows, and a state with one bar or strip put anew.
+-- Assumes nothing.
+use mathlib.Core.Bool.{Bool, true, _&&_}
+use Prim.Native.Nat.{ℕ}
+use lib.Dec.{ltb}
+use lib.ListN.{set}
+use Rattle.pixels.specs.Framebuffer.{width}
+use Rattle.bar_graph.specs.declared.Bar.{Bar}
+use Rattle.state.specs.declared.Strip.{Strip}
+use Rattle.state.specs.declared.State.{State}
+use Rattle.state.specs.State.{state, barSlot, withBars, withStrips}
+
+abbrev pub onScreenOf : ℕ → ℕ → ℕ → ℕ → ℕ → Bool
+onScreenOf h x1 y1 x2 y2 = ltb x1 width && ltb x2 width && ltb y1 h && ltb y2 h
+
+abbrev pub withBarOf : State → ℕ → Bar → State
+withBarOf s i b = state (s .port) (withBars (s .panel) (set (s .panel .bars) i (barSlot true b)))
+
+abbrev pub withStripOf : State → ℕ → Strip → State
+withStripOf s i t = state (s .port) (withStrips (s .panel) (set (s .panel .strips) i t))

@@ -1,0 +1,22 @@
+// Commands of saved bitmaps and of data in line.
+use bitmap::paint_inline;
+use bitmap::paint_packed;
+use directory::BITMAP;
+use directory::Found;
+use directory::find;
+use drawing::is_ordered;
+use files::part;
+use fonts::BITMAP_HEADER;
+use fonts::Check;
+use fonts::bitmap_height;
+use fonts::bitmap_width;
+use fonts::check_bitmap;
+use outcome::CORNERS;
+use outcome::MALFORMED;
+use outcome::NO_FILE;
+use outcome::Outcome;
+use outcome::done;
+use outcome::in_phase;
+use outcome::refused;
+use state::Phase;
+use state::State;

@@ -1,0 +1,208 @@
+//! The records' own rules, without the library: layout, both round trips, and what is not sound.
+
+use compare::random;
+use compare::record::*;
+use reference::builtin::built_in_font;
+use reference::generator::any_scene;
+use reference::prng::Prng;
+use reference::queue::Queue;
+use reference::state::{Bar, Gathering, Inline, Kind, State, Strip, Text, Upload};
+
+fn start() -> [u8; STATE_BYTES] {
+    encode_state(&State::at_start())
+}
+
+/// The start's record with some bytes otherwise.
+fn with(changes: &[(usize, u8)]) -> bool {
+    let mut record = start();
+    for &(place, value) in changes {
+        record[place] = value;
+    }
+    decode_state(&record).is_some()
+}
+
+#[test]
+fn start_record_byte_by_byte() {
+    let mut expected = [0; 201];
+    for (place, value) in [(23, 1), (30, 1), (31, 64), (32, 1), (33, 1), (34, 1), (198, 128), (199, 1)] {
+        expected[place] = value;
+    }
+    assert_eq!(start(), expected);
+}
+
+#[test]
+fn every_field_in_its_place() {
+    let mut state = State::at_start();
+    state.text = Text {
+        font: 10,
+        x: 256 + 11,
+        y: 12,
+        left: 13,
+        top: 14,
+        char_space: 15,
+        line_space: 16,
+        scroll_row: 17,
+        wrap: false,
+        scroll: true,
+    };
+    (state.black, state.line_x, state.line_y) = (false, 18, 19);
+    (state.flow, state.full, state.empty) = (true, 20, 21);
+    (state.refusals, state.last_refusal) = (256 * 22 + 23, 24);
+    state.bars[0] = Some(Bar { side: 2, x1: 25, y1: 26, x2: 27, y2: 28, value: 3 });
+    state.bars[15] = Some(Bar { side: 3, x1: 29, y1: 30, x2: 31, y2: 32, value: 1 });
+    state.strips[0] = Some(Strip { x1: 33, y1: 34, x2: 35, y2: 36 });
+    state.strips[7] = Some(Strip { x1: 37, y1: 38, x2: 39, y2: 40 });
+    state.serial = Some((41, 42));
+    (state.contrast, state.backlight, state.minutes) = (43, false, 44);
+    let record = encode_state(&state);
+    assert_eq!(record[..23], [0; 23]);
+    assert_eq!(record[23..34], [10, 11, 1, 12, 13, 14, 15, 16, 17, 0, 1]);
+    assert_eq!(record[34..43], [0, 18, 19, 1, 20, 21, 23, 22, 24]);
+    assert_eq!(record[43..50], [1, 2, 25, 26, 27, 28, 3]);
+    assert_eq!(record[50..148], [0; 98]);
+    assert_eq!(record[148..155], [1, 3, 29, 30, 31, 32, 1]);
+    assert_eq!(record[155..160], [1, 33, 34, 35, 36]);
+    assert_eq!(record[160..190], [0; 30]);
+    assert_eq!(record[190..195], [1, 37, 38, 39, 40]);
+    assert_eq!(record[195..], [1, 41, 42, 43, 0, 44]);
+    assert_eq!(decode_state(&record), Some(state));
+}
+
+#[test]
+fn every_phase_in_its_place() {
+    let of = |change: &dyn Fn(&mut State)| {
+        let mut state = State::at_start();
+        change(&mut state);
+        let record = encode_state(&state);
+        assert_eq!(decode_state(&record).as_ref(), Some(&state));
+        assert_eq!(record[23..], start()[23..]);
+        record[..23].to_vec()
+    };
+    let prefix = of(&|s| s.gathering = Some(Gathering { bytes: vec![] }));
+    assert_eq!(prefix, [&[1][..], &[0; 22]].concat());
+    let gathering = of(&|s| s.gathering = Some(Gathering { bytes: vec![103, 5, 6, 7, 8, 9] }));
+    assert_eq!(gathering, [&[2, 103, 5, 5, 6, 7, 8, 9][..], &[0; 15]].concat());
+    let inline = of(&|s| s.inline = Some(Inline { x1: 1, y1: 2, x2: 255, y2: 100, come: 770 }));
+    assert_eq!(inline, [&[3][..], &[0; 8], &[1, 2, 255, 100, 2, 3], &[0; 8]].concat());
+    let upload = Upload { kind: Kind::Font, number: 9, size: 515, stored: 258, echoed: None };
+    assert_eq!(of(&|s| s.upload = Some(upload)), [&[4][..], &[0; 14], &[1, 9, 3, 2, 2, 1, 0, 0]].concat());
+    let waiting = Upload { kind: Kind::Bitmap, echoed: Some(77), ..upload };
+    assert_eq!(of(&|s| s.upload = Some(waiting)), [&[4][..], &[0; 14], &[2, 9, 3, 2, 2, 1, 1, 77]].concat());
+}
+
+#[test]
+fn sound_and_not_sound() {
+    assert!(with(&[]));
+    assert!(with(&[(0, 1)]) && !with(&[(0, 2)]) && !with(&[(0, 3)]) && !with(&[(0, 4)]) && !with(&[(0, 5)]));
+    // gathering: the code must have arguments, and fewer of them have come than it needs
+    assert!(with(&[(0, 2), (1, 107)]) && !with(&[(0, 2), (1, 107), (2, 1)]));
+    assert!(!with(&[(0, 2), (1, 88)]) && !with(&[(0, 2), (1, 254)]) && !with(&[(0, 2), (1, 0)]));
+    assert!(with(&[(0, 2), (1, 103), (2, 5), (7, 9)]) && !with(&[(0, 2), (1, 103), (2, 5), (8, 9)]));
+    assert!(!with(&[(0, 2), (1, 103), (2, 6)]) && !with(&[(0, 2), (1, 103), (2, 255)]));
+    assert!(with(&[(0, 2), (1, 98), (2, 2), (3, 200)]));
+    // numbers of a phase that is not the present one
+    for place in 1..23 {
+        assert!(!with(&[(place, 1)]) && !with(&[(0, 1), (place, 1)]), "place {place}");
+    }
+    assert!(with(&[(0, 3)]) != with(&[(0, 3), (14, 1)]) || !with(&[(0, 3)]));
+    assert!(with(&[(0, 3), (11, 7), (12, 1), (13, 1)]) && !with(&[(0, 3), (11, 7), (12, 1), (13, 2)]));
+    assert!(!with(&[(0, 3), (9, 8), (11, 7), (12, 1)]) && !with(&[(0, 3), (10, 2), (11, 7), (12, 1)]));
+    assert!(!with(&[(0, 3), (11, 7), (12, 1), (15, 1)]) && !with(&[(0, 3), (11, 7), (12, 1), (1, 1)]));
+    // uploads
+    assert!(with(&[(0, 4), (15, 1), (17, 1)]) && with(&[(0, 4), (15, 2), (17, 1)]));
+    assert!(!with(&[(0, 4), (15, 0), (17, 1)]) && !with(&[(0, 4), (15, 3), (17, 1)]));
+    assert!(!with(&[(0, 4), (15, 1), (17, 1), (19, 1)]) && with(&[(0, 4), (15, 1), (18, 1), (19, 255)]));
+    assert!(with(&[(0, 4), (15, 1), (17, 1), (21, 1), (22, 9)]) && !with(&[(0, 4), (15, 1), (17, 1), (22, 9)]));
+    assert!(!with(&[(0, 4), (15, 1), (17, 1), (21, 2)]));
+    // text and flags
+    assert!(with(&[(24, 239), (25, 1)]) && !with(&[(24, 240), (25, 1)]) && !with(&[(25, 2)]));
+    for place in [32, 33, 34, 37, 199] {
+        assert!(with(&[(place, 0)]) && with(&[(place, 1)]) && !with(&[(place, 2)]) && !with(&[(place, 255)]));
+    }
+    // thresholds, flow on or off
+    for on in [0, 1] {
+        assert!(with(&[(37, on), (38, 40), (39, 39)]) && !with(&[(37, on), (38, 40), (39, 40)]));
+        assert!(with(&[(37, on), (38, 79)]) && !with(&[(37, on), (39, 80)]) && !with(&[(37, on), (38, 200), (39, 100)]));
+    }
+}
+
+#[test]
+fn bars_strips_and_serial() {
+    let bar = |b: [u8; 7]| with(&b.iter().enumerate().map(|(k, &v)| (43 + 7 * 4 + k, v)).collect::<Vec<_>>());
+    assert!(bar([0; 7]) && bar([1, 0, 0, 0, 239, 63, 64]) && bar([1, 3, 0, 0, 239, 63, 240]));
+    assert!(!bar([2, 0, 0, 0, 239, 63, 64]) && !bar([1, 4, 0, 0, 239, 63, 64]) && !bar([1, 0, 0, 0, 239, 63, 65]));
+    assert!(!bar([1, 0, 0, 0, 240, 63, 0]) && !bar([1, 0, 0, 0, 239, 64, 0]));
+    assert!(!bar([1, 0, 9, 0, 9, 63, 0]) && !bar([1, 0, 0, 9, 239, 9, 0]) && !bar([1, 3, 0, 0, 239, 63, 241]));
+    for k in 1..7 {
+        let mut off = [0; 7];
+        off[k] = 1;
+        assert!(!bar(off), "byte {k} of a bar that is not set up");
+    }
+    let strip = |s: [u8; 5]| with(&s.iter().enumerate().map(|(k, &v)| (155 + 5 * 7 + k, v)).collect::<Vec<_>>());
+    assert!(strip([0; 5]) && strip([1, 0, 0, 239, 63]) && strip([1, 238, 62, 239, 63]));
+    assert!(!strip([2, 0, 0, 239, 63]) && !strip([1, 0, 0, 240, 63]) && !strip([1, 0, 0, 239, 64]));
+    assert!(!strip([1, 5, 0, 5, 9]) && !strip([1, 0, 5, 9, 5]));
+    for k in 1..5 {
+        let mut off = [0; 5];
+        off[k] = 1;
+        assert!(!strip(off), "byte {k} of a strip that is not set up");
+    }
+    assert!(with(&[(195, 1)]) && with(&[(195, 1), (196, 9), (197, 9)]) && !with(&[(195, 2)]));
+    assert!(!with(&[(196, 9)]) && !with(&[(197, 9)]));
+}
+
+#[test]
+fn lengths() {
+    for length in [0, 1, 200, 202, 402] {
+        let mut record = start().to_vec();
+        record.resize(length, 0);
+        assert_eq!(decode_state(&record), None);
+    }
+    for length in [0, 1, 84, 86, 170] {
+        assert_eq!(decode_queue(&vec![0; length]), None);
+    }
+}
+
+#[test]
+fn queue_record() {
+    let mut record: Vec<u8> = (100..180).collect();
+    record.extend([79, 80, 1, 2, 3]);
+    let queue = Queue { ring: (100..180).collect(), place: 79, held: 80, mark: true, lost: 770 };
+    assert_eq!(decode_queue(&record), Some(queue.clone()));
+    assert_eq!(encode_queue(&queue)[..], record);
+    for (place, value) in [(80, 80), (81, 81), (82, 2)] {
+        let mut bad = record.clone();
+        bad[place] = value;
+        assert_eq!(decode_queue(&bad), None, "place {place}");
+    }
+}
+
+/// What decodes is what encodes: every state has one record, and every sound record one state.
+#[test]
+fn round_trips() {
+    let font = built_in_font();
+    let mut rng = Prng::new(1);
+    let mut sound = 0;
+    for seed in 0..300 {
+        let state = match seed % 2 {
+            0 => any_scene(&font, seed).begin.state,
+            _ => {
+                let store = random::store(&mut rng);
+                random::state(&mut rng, &store)
+            }
+        };
+        let record = encode_state(&state);
+        assert_eq!(decode_state(&record), Some(state));
+        for place in 0..STATE_BYTES {
+            for value in [0, 1, 2, 3, 4, rng.byte(), record[place] ^ 1, record[place] ^ 128] {
+                let mut other = record;
+                other[place] = value;
+                if let Some(state) = decode_state(&other) {
+                    assert_eq!(encode_state(&state), other, "place {place}");
+                    sound += 1;
+                }
+            }
+        }
+    }
+    assert!(sound > 100_000, "only {sound} sound records were met");
+}

@@ -1,0 +1,184 @@
+//! One call to both sides, and every byte compared.
+
+use crate::expect::Expect;
+use crate::library::{Library, Returned};
+use crate::memory::Memory;
+use crate::record::state_place;
+use std::collections::BTreeMap;
+use std::panic::{catch_unwind, AssertUnwindSafe};
+
+#[derive(Clone, Copy, Debug)]
+pub enum Call<'a> {
+    Start,
+    Feed { piece: &'a [u8], room: usize },
+    Arrive(u8),
+    Take,
+}
+
+impl Call<'_> {
+    pub fn name(&self) -> &'static str {
+        match self {
+            Call::Start => "start",
+            Call::Feed { .. } => "feed",
+            Call::Arrive(_) => "arrive",
+            Call::Take => "take",
+        }
+    }
+}
+
+/// A call at which the two parted, with the memory before it.
+#[derive(Clone, Debug)]
+pub struct Failure {
+    pub call: &'static str,
+    pub piece: Vec<u8>,
+    pub room: usize,
+    pub byte: u8,
+    pub before: Memory,
+    pub difference: String,
+}
+
+#[derive(Clone, Debug, Default)]
+pub struct Counts {
+    /// Calls by function and answer.
+    pub answers: BTreeMap<(&'static str, u32), u64>,
+    pub signals: BTreeMap<u8, u64>,
+    pub bytes_fed: u64,
+    pub replies: u64,
+}
+
+impl Counts {
+    pub fn calls(&self, name: &str) -> u64 {
+        self.answers.iter().filter(|((call, _), _)| *call == name).map(|(_, count)| count).sum()
+    }
+
+    pub fn reached(&self, name: &'static str, answer: u32) -> u64 {
+        self.answers.get(&(name, answer)).copied().unwrap_or(0)
+    }
+}
+
+/// The library and the reference side by side.
+#[derive(Default)]
+pub struct Pair {
+    pub counts: Counts,
+    library: Library,
+    expect: Expect,
+    before: Memory,
+    replies_before: Vec<u8>,
+    replies: Vec<u8>,
+}
+
+pub type Checked = Result<Returned, Box<Failure>>;
+
+impl Pair {
+    pub fn font(&self) -> &[u8] {
+        &self.expect.font
+    }
+
+    /// Calls both; the memory becomes what both left, or the failure tells where they parted.
+    pub fn call(&mut self, memory: &mut Memory, call: Call) -> Checked {
+        match call {
+            Call::Start | Call::Feed { .. } => self.before.copy_from(memory),
+            Call::Arrive(_) | Call::Take => self.before.copy_records_from(memory),
+        }
+        match self.compare(memory, call) {
+            Ok(returned) => {
+                self.count(call.name(), &returned);
+                Ok(returned)
+            }
+            Err(difference) => Err(Box::new(self.failure(call, difference))),
+        }
+    }
+
+    fn compare(&mut self, memory: &mut Memory, call: Call) -> Result<Returned, String> {
+        if let Call::Feed { room, .. } = call {
+            // any old bytes, which must stay behind the replies
+            self.replies_before.clear();
+            self.replies_before.extend((0..room).map(|k| (k as u8).wrapping_mul(91) ^ room as u8 ^ 0xA6));
+            self.replies.clone_from(&self.replies_before);
+        }
+        let library = &mut self.library;
+        let got = match call {
+            Call::Start => library.start(memory),
+            Call::Feed { piece, .. } => library.feed(memory, piece, &self.replies_before),
+            Call::Arrive(byte) => library.arrive(memory, byte),
+            Call::Take => library.take(memory),
+        }?;
+        let (expect, replies) = (&mut self.expect, &mut self.replies);
+        let expected = catch_unwind(AssertUnwindSafe(|| match call {
+            Call::Start => expect.start(memory),
+            Call::Feed { piece, .. } => expect.feed(memory, piece, replies),
+            Call::Arrive(byte) => expect.arrive(memory, byte),
+            Call::Take => expect.take(memory),
+        }))
+        .map_err(|_| String::from("the reference panicked"))?;
+        numbers(&expected, &got)?;
+        if let Call::Start | Call::Feed { .. } = call {
+            bytes("glass", &memory.glass, library.glass.contents(), |k| format!("row {} byte {}", k / 30, k % 30))?;
+            bytes("store", &memory.store, library.store.contents(), |_| String::new())?;
+        }
+        bytes("state", &memory.state, library.state.contents(), state_place)?;
+        match call {
+            Call::Feed { .. } => bytes("replies", &self.replies, library.replies.contents(), |_| String::new())?,
+            _ => bytes("queue", &memory.queue, library.queue.contents(), queue_place)?,
+        }
+        Ok(expected)
+    }
+
+    fn count(&mut self, name: &'static str, returned: &Returned) {
+        *self.counts.answers.entry((name, returned.answer)).or_default() += 1;
+        if returned.signal != 0 {
+            *self.counts.signals.entry(returned.signal).or_default() += 1;
+        }
+        self.counts.bytes_fed += returned.consumed as u64;
+        self.counts.replies += returned.replied as u64;
+    }
+
+    fn failure(&self, call: Call, difference: String) -> Failure {
+        let (mut piece, mut room, mut byte) = (Vec::new(), 0, 0);
+        let mut before = self.before.clone();
+        match call {
+            Call::Feed { piece: fed, room: free } => (piece, room) = (fed.to_vec(), free),
+            Call::Arrive(arriving) => byte = arriving,
+            _ => {}
+        }
+        if let Call::Arrive(_) | Call::Take = call {
+            // not lent, and not copied for this call
+            (before.glass, before.store) = (Vec::new(), Vec::new());
+        }
+        Failure { call: call.name(), piece, room, byte, before, difference }
+    }
+}
+
+fn numbers(expected: &Returned, got: &Returned) -> Result<(), String> {
+    let pairs = [
+        ("answer", expected.answer as usize, got.answer as usize),
+        ("consumed", expected.consumed, got.consumed),
+        ("replied", expected.replied, got.replied),
+        ("byte", expected.byte as usize, got.byte as usize),
+        ("signal", expected.signal as usize, got.signal as usize),
+    ];
+    for (name, expected, got) in pairs {
+        if expected != got {
+            return Err(format!("{name}: expected {expected}, the library {got}"));
+        }
+    }
+    Ok(())
+}
+
+/// One comparison of whole slices; only a difference is looked at byte by byte.
+fn bytes(name: &str, expected: &[u8], got: &[u8], place: impl Fn(usize) -> String) -> Result<(), String> {
+    if expected == got {
+        return Ok(());
+    }
+    let k = expected.iter().zip(got).position(|(a, b)| a != b).unwrap_or(expected.len().min(got.len()));
+    let show = |bytes: &[u8]| bytes.get(k).map_or("nothing".into(), |byte| byte.to_string());
+    Err(format!("{name} at {k} ({}): expected {}, the library {}", place(k), show(expected), show(got)))
+}
+
+fn queue_place(place: usize) -> String {
+    match place {
+        0..=79 => "ring".into(),
+        80..=84 => ["place", "held", "mark", "lost low", "lost high"][place - 80].into(),
+        _ => "beyond the record".into(),
+    }
+}

@@ -1,0 +1,167 @@
+//! The library's four functions, each called on guarded copies.
+
+use crate::lent::{Lent, Out};
+use crate::memory::Memory;
+
+mod c {
+    extern "C" {
+        pub fn display_start(
+            glass: *mut u8, glass_length: usize,
+            store: *mut u8, store_length: usize,
+            state: *mut u8, state_length: usize,
+            queue: *mut u8, queue_length: usize,
+        ) -> u32;
+        pub fn display_feed(
+            glass: *mut u8, glass_length: usize,
+            store: *mut u8, store_length: usize,
+            state: *mut u8, state_length: usize,
+            piece: *const u8, piece_length: usize,
+            replies: *mut u8, replies_length: usize,
+            consumed: *mut usize, replied: *mut usize,
+        ) -> u32;
+        pub fn display_arrive(
+            state: *const u8, state_length: usize,
+            queue: *mut u8, queue_length: usize,
+            byte: u8, signal: *mut u8,
+        ) -> u32;
+        pub fn display_take(
+            state: *const u8, state_length: usize,
+            queue: *mut u8, queue_length: usize,
+            byte: *mut u8, signal: *mut u8,
+        ) -> u32;
+    }
+}
+
+/// What a call hands back; numbers that its function does not have are 0.
+#[derive(Clone, Copy, Debug, Default, PartialEq, Eq)]
+pub struct Returned {
+    pub answer: u32,
+    pub consumed: usize,
+    pub replied: usize,
+    pub byte: u8,
+    pub signal: u8,
+}
+
+/// The guarded copies; after a call they hold what the library left.
+#[derive(Clone, Debug, Default)]
+pub struct Library {
+    pub glass: Lent,
+    pub store: Lent,
+    pub state: Lent,
+    pub queue: Lent,
+    pub piece: Lent,
+    pub replies: Lent,
+    turn: u64,
+}
+
+type Told = Result<Returned, String>;
+
+impl Library {
+    pub fn start(&mut self, memory: &Memory) -> Told {
+        self.lend_panel(memory);
+        self.queue.fill(&memory.queue, self.turn + 3);
+        let (glass, store, state, queue) = (&mut self.glass, &mut self.store, &mut self.state, &mut self.queue);
+        // SAFETY: four separate buffers, each with its true length.
+        let answer = unsafe {
+            c::display_start(
+                glass.pointer(), glass.length(),
+                store.pointer(), store.length(),
+                state.pointer(), state.length(),
+                queue.pointer(), queue.length(),
+            )
+        };
+        guards(&[("glass", glass), ("store", store), ("state", state), ("queue", queue)])?;
+        Ok(Returned { answer, ..Returned::default() })
+    }
+
+    /// The replies are lent as they stand, old bytes included.
+    pub fn feed(&mut self, memory: &Memory, piece: &[u8], replies: &[u8]) -> Told {
+        self.lend_panel(memory);
+        self.piece.fill(piece, self.turn + 3);
+        self.replies.fill(replies, self.turn + 4);
+        let (mut consumed, mut replied) = (Out::new(0xABCD_EF01_usize ^ self.turn as usize), Out::new(usize::MAX));
+        let (glass, store, state) = (&mut self.glass, &mut self.store, &mut self.state);
+        // SAFETY: five separate buffers, each with its true length; the two numbers are distinct and aligned.
+        let answer = unsafe {
+            c::display_feed(
+                glass.pointer(), glass.length(),
+                store.pointer(), store.length(),
+                state.pointer(), state.length(),
+                self.piece.pointer(), self.piece.length(),
+                self.replies.pointer(), self.replies.length(),
+                consumed.pointer(), replied.pointer(),
+            )
+        };
+        guards(&[("glass", glass), ("store", store), ("state", state), ("piece", &self.piece), ("replies", &self.replies)])?;
+        beside(&[("consumed", consumed.overrun()), ("replied", replied.overrun())])?;
+        unchanged("piece", piece, &self.piece)?;
+        Ok(Returned { answer, consumed: consumed.value(), replied: replied.value(), ..Returned::default() })
+    }
+
+    pub fn arrive(&mut self, memory: &Memory, byte: u8) -> Told {
+        self.lend_records(memory);
+        let mut signal = Out::new(0xC5_u8 ^ self.turn as u8);
+        let (state, queue) = (&mut self.state, &mut self.queue);
+        // SAFETY: two separate buffers, each with its true length.
+        let answer = unsafe {
+            c::display_arrive(state.pointer(), state.length(), queue.pointer(), queue.length(), byte, signal.pointer())
+        };
+        guards(&[("state", state), ("queue", queue)])?;
+        beside(&[("signal", signal.overrun())])?;
+        unchanged("state", &memory.state, state)?;
+        Ok(Returned { answer, signal: signal.value(), ..Returned::default() })
+    }
+
+    pub fn take(&mut self, memory: &Memory) -> Told {
+        self.lend_records(memory);
+        let (mut byte, mut signal) = (Out::new(0x3A_u8 ^ self.turn as u8), Out::new(0xC5_u8 ^ self.turn as u8));
+        let (state, queue) = (&mut self.state, &mut self.queue);
+        // SAFETY: two separate buffers, each with its true length; the two numbers are distinct.
+        let answer = unsafe {
+            let (byte, signal) = (byte.pointer(), signal.pointer());
+            c::display_take(state.pointer(), state.length(), queue.pointer(), queue.length(), byte, signal)
+        };
+        guards(&[("state", state), ("queue", queue)])?;
+        beside(&[("byte", byte.overrun()), ("signal", signal.overrun())])?;
+        unchanged("state", &memory.state, state)?;
+        Ok(Returned { answer, byte: byte.value(), signal: signal.value(), ..Returned::default() })
+    }
+
+    fn lend_panel(&mut self, memory: &Memory) {
+        self.turn += 7;
+        self.glass.fill(&memory.glass, self.turn);
+        self.store.fill(&memory.store, self.turn + 1);
+        self.state.fill(&memory.state, self.turn + 2);
+    }
+
+    fn lend_records(&mut self, memory: &Memory) {
+        self.turn += 7;
+        self.state.fill(&memory.state, self.turn);
+        self.queue.fill(&memory.queue, self.turn + 1);
+    }
+}
+
+fn guards(lent: &[(&str, &Lent)]) -> Result<(), String> {
+    for (name, slice) in lent {
+        if let Some(overrun) = slice.overrun() {
+            return Err(format!("{name}: a byte was written {overrun}"));
+        }
+    }
+    Ok(())
+}
+
+fn beside(outs: &[(&str, bool)]) -> Result<(), String> {
+    for (name, overrun) in outs {
+        if *overrun {
+            return Err(format!("{name}: its neighbour was written"));
+        }
+    }
+    Ok(())
+}
+
+fn unchanged(name: &str, before: &[u8], after: &Lent) -> Result<(), String> {
+    if before != after.contents() {
+        return Err(format!("{name}: lent for reading, but written"));
+    }
+    Ok(())
+}
