@@ -1,7 +1,7 @@
 // The directory of the store: the records in its first 256 bytes, read. Any bytes may stand there, and any number of them.
 ghost use mathlib.Core.Path.{_≡_};
-ghost use Prim.Native.Nat.{_+_, _-_, _≤_, _<_};
-ghost use lib.ListN.{getD};
+ghost use Prim.Native.Nat.{_+_, _-_, _≤_, _<_, min};
+ghost use lib.ListN.{getD, take, drop};
 ghost use Rattle.directory.specs.Directory.{lengthOf, stepAt, entryAt, entries, entriesFrom, totalsOf, isFile, hasFile, findOf, isFair, keepRules, zerosFrom, validOf};
 
 // The directory's bytes; the file area lies behind them.
@@ -45,6 +45,30 @@ pub fn byte_at(store: &[u8], p: usize) -> u8
     ensures { λ r. ⌜ r ≡ getD (now (store .entry)) p 0 ⌝ }
 {
     if p < store.len() { store[p] } else { 0 }
+}
+
+pub fn least(a: usize, b: usize) -> usize
+    ensures { λ r. ⌜ r ≡ min a b ⌝ }
+{
+    if a < b { a } else { b }
+}
+
+// The lent bytes from number `at` on; behind the end there are none.
+pub fn rest(s: &[u8], at: usize) -> &[u8]
+    ensures { λ r. ⌜ now r ≡ drop at (now (s .entry)) ⌝ }
+{
+    let end = s.len();
+    let from = least(at, end);
+    &s[from..end]
+}
+
+// n of the lent bytes from number `at` on, or as many as there are.
+pub fn part(s: &[u8], at: usize, n: usize) -> &[u8]
+    ensures { λ r. ⌜ now r ≡ take n (drop at (now (s .entry))) ⌝ }
+{
+    let from = least(at, s.len());
+    let end = from + least(n, s.len() - from);
+    &s[from..end]
 }
 
 fn wide(b: u8) -> usize

@@ -2,10 +2,11 @@
 use directory::DIRECTORY;
 use directory::Found;
 use directory::find;
+use directory::least;
 use directory::record_length;
 use directory::tally;
 ghost use mathlib.Core.Path.{_≡_};
-ghost use Prim.Native.Nat.{_+_, _≤_, min};
+ghost use Prim.Native.Nat.{_+_, _≤_};
 ghost use lib.ListN.{length, drop, replicate};
 ghost use lib.Seq.{paste};
 ghost use Rattle.files.specs.Moves.{closed};
@@ -92,12 +93,6 @@ pub fn delete(store: &mut [u8], kind: u8, number: u8) -> bool
     let n = record_length(kind);
     close(store, record, n, t.end, start, start + size, top);
     true
-}
-
-fn least(a: usize, b: usize) -> usize
-    ensures { λ r. ⌜ r ≡ min a b ⌝ }
-{
-    if a < b { a } else { b }
 }
 
 // No record left; the file area stays.

@@ -6,13 +6,14 @@ use Prim.Native.Nat.{ℕ, _+_, _%_}
 use Rattle.pixels.specs.Framebuffer.{height}
 use Rattle.state.specs.declared.Phase.the-variants.{Idle}
 use Rattle.state.specs.declared.State.{State}
+use Rattle.state.specs.declared.Text.{Text}
 use Rattle.state.specs.State.{withRefusals}
 use Rattle.rules.specs.World.{World, world, done, quietly, refused, Outcome as Ruled}
 use Rattle.rules.specs.Step.{refusals, after, sent, refuse}
 use Rattle.outcome.specs.declared.Outcome.{Outcome}
 use Rattle.outcome.specs.declared.Reply.{Reply}
-use Rattle.outcome.specs.Outcome.{sentBy, inPhaseOf, withPortOf, refusedState, refusedOf, doneOf, sendingOf, oneByte, twoBytes}
-use Rattle.outcome.specs.Contract.{Came, Sets, SetsOn, Paints, Stores, StoresOn, Shows}
+use Rattle.outcome.specs.Outcome.{sentBy, inPhaseOf, withPortOf, putTextOf, refusedState, refusedOf, doneOf, sendingOf, oneByte, twoBytes}
+use Rattle.outcome.specs.Contract.{Came, Sets, SetsOn, Paints, Stores, StoresOn, Shows, ShowsOn}
 
 pub refuse-is : (s t v : State) (n c : ℕ) → t ≡ inPhaseOf s Idle → c ≡ (s .port .refusals .count + 1) % 65536
     → v ≡ withPortOf s (withRefusals (t .port) (refusals c n)) → v ≡ refusedState s n
@@ -100,13 +101,17 @@ pub stores-on-done : {h : ℕ} {rule : World → Ruled} {st : State} {s s' : Lis
     → ((g : List ℕ) → height g ≡ h → rule (world g s st) ≡ quietly (world g s' st')) → StoresOn h rule st s s' r
 stores-on-done st' f e = record { came = λ g t. came-done _ g _ st' _ _ (e g t) f }
 
-pub shows-refused : (n : ℕ) {h : ℕ} {rule : World → Ruled} {st : State} {g s : List ℕ} {r : Outcome} → r ≡ refusedOf st n
-    → (height g ≡ h → rule (world g s st) ≡ refused n []) → Shows h rule st g g s r
-shows-refused n f e = record { came = λ t. came-refused _ _ _ _ n _ (e t) f }
+pub shows-refused : (n : ℕ) {rule : World → Ruled} {st : State} {g s : List ℕ} {r : Outcome} → r ≡ refusedOf st n
+    → rule (world g s st) ≡ refused n [] → Shows rule st g g s r
+shows-refused n f e = record { came = came-refused _ _ _ _ n _ e f }
 
-pub shows-done : {h : ℕ} {rule : World → Ruled} {st : State} {g g' s : List ℕ} {r : Outcome} (st' : State) → r ≡ doneOf st'
-    → (height g ≡ h → rule (world g s st) ≡ quietly (world g' s st')) → Shows h rule st g g' s r
-shows-done st' f e = record { came = λ t. came-done _ _ _ st' _ _ (e t) f }
+pub shows-on-refused : (n : ℕ) {h : ℕ} {rule : World → Ruled} {st : State} {g s : List ℕ} {r : Outcome} → r ≡ refusedOf st n
+    → (height g ≡ h → rule (world g s st) ≡ refused n []) → ShowsOn h rule st g g s r
+shows-on-refused n f e = record { came = λ t. came-refused _ _ _ _ n _ (e t) f }
+
+pub shows-on-done : {h : ℕ} {rule : World → Ruled} {st : State} {g g' s : List ℕ} {r : Outcome} (st' : State) → r ≡ doneOf st'
+    → (height g ≡ h → rule (world g s st) ≡ quietly (world g' s st')) → ShowsOn h rule st g g' s r
+shows-on-done st' f e = record { came = λ t. came-done _ _ _ st' _ _ (e t) f }
 
 -- ---- an outcome made of a state that a call made
 
@@ -115,3 +120,6 @@ done-with e f = f ∙ ap doneOf e
 
 pub sending-with : {n st : State} {q p : Reply} {r : Outcome} → n ≡ st → q ≡ p → r ≡ sendingOf n q → r ≡ sendingOf st p
 sending-with e d f = f ∙ rw (e, d)
+
+pub put-with : (s : State) {n : State} {t u : Text} → t ≡ u → n ≡ putTextOf s t → n ≡ putTextOf s u
+put-with s e f = f ∙ ap (putTextOf s) e

@@ -35,6 +35,10 @@ pub record Stores (rule : World → Ruled) (st : State) (s s' : List ℕ) (r : O
 pub record StoresOn (h : ℕ) (rule : World → Ruled) (st : State) (s s' : List ℕ) (r : Outcome) : Type 0 where
   pub came : (g : List ℕ) → height g ≡ h → Came (world g s st) (rule (world g s st)) (world g s' (r .state)) (sentBy (r .reply))
 
--- lent the screen, the store to read, and told the screen's height
-pub record Shows (h : ℕ) (rule : World → Ruled) (st : State) (g g' s : List ℕ) (r : Outcome) : Type 0 where
+-- lent the screen, and the store to read
+pub record Shows (rule : World → Ruled) (st : State) (g g' s : List ℕ) (r : Outcome) : Type 0 where
+  pub came : Came (world g s st) (rule (world g s st)) (world g' s (r .state)) (sentBy (r .reply))
+
+-- the same, and told the screen's height
+pub record ShowsOn (h : ℕ) (rule : World → Ruled) (st : State) (g g' s : List ℕ) (r : Outcome) : Type 0 where
   pub came : height g ≡ h → Came (world g s st) (rule (world g s st)) (world g' s (r .state)) (sentBy (r .reply))

@@ -4,8 +4,9 @@ use bitmap::paint_packed;
 use directory::BITMAP;
 use directory::Found;
 use directory::find;
+use directory::part;
+use directory::rest;
 use drawing::is_ordered;
-use files::part;
 use fonts::BITMAP_HEADER;
 use fonts::Check;
 use fonts::bitmap_height;
@@ -20,3 +21,72 @@ use outcome::in_phase;
 use outcome::refused;
 use state::Phase;
 use state::State;
+use state::inline_bytes;
+ghost use mathlib.Core.Path.{_≡_};
+ghost use mathlib.Core.Bool.{true};
+ghost use Rattle.state.specs.Soundness.{soundInline};
+ghost use Rattle.rules.specs.Pictures.{bitmapIn, showBitmap, beginInline, inlineData};
+ghost use Rattle.outcome.specs.Contract.{Sets, Paints, Shows};
+
+// A bitmap from its file, its upper left corner at (x, y).
+fn show_file(screen: &mut [u8], state: State, file: &[u8], x: u8, y: u8) -> Outcome
+    ensures { λ r. ⌜ Paints (λ w. bitmapIn w (now (file .entry)) x y) state (now (screen .entry)) (now (screen .exit)) r ⌝ }
+{
+    let check = check_bitmap(file);
+    let Check::Good = check else {
+        return refused(state, MALFORMED);
+    };
+    let bits = rest(file, BITMAP_HEADER);
+    paint_packed(screen, x as u16, y, bitmap_width(file), bitmap_height(file), bits);
+    done(state)
+}
+
+pub fn show_bitmap(screen: &mut [u8], store: &[u8], state: State, number: u8, x: u8, y: u8) -> Outcome
+    ensures { λ r. ⌜ Shows (λ w. showBitmap w number x y) state (now (screen .entry)) (now (screen .exit)) (now (store .entry)) r ⌝ }
+{
+    let found = find(store, BITMAP, number);
+    let Found::At {
+        record: _,
+        start,
+        size,
+    } = found
+    else {
+        return refused(state, NO_FILE);
+    };
+    let file = part(store, start, size);
+    show_file(screen, state, file, x, y)
+}
+
+pub fn begin_inline(state: State, x1: u8, y1: u8, x2: u8, y2: u8) -> Outcome
+    ensures { λ r. ⌜ Sets (λ w. beginInline w x1 y1 x2 y2) state r ⌝ }
+{
+    if !is_ordered(x1, y1, x2, y2) {
+        return refused(state, CORNERS);
+    }
+    done(in_phase(state, Phase::Inline {
+        x1: x1,
+        y1: y1,
+        x2: x2,
+        y2: y2,
+        done: 0,
+    }))
+}
+
+// Byte number `came` of the data, painted as it comes.
+pub fn inline_data(screen: &mut [u8], state: State, x1: u8, y1: u8, x2: u8, y2: u8, came: u16, byte: u8) -> Outcome
+    requires { ⌜ soundInline x1 y1 x2 y2 came ≡ true ⌝ }
+    ensures { λ r. ⌜ Paints (λ w. inlineData w x1 y1 x2 y2 came byte) state (now (screen .entry)) (now (screen .exit)) r ⌝ }
+{
+    paint_inline(screen, x1, y1, x2, y2, came, byte);
+    let all = inline_bytes(x1, y1, x2, y2);
+    if came + 1 < all {
+        return done(in_phase(state, Phase::Inline {
+            x1: x1,
+            y1: y1,
+            x2: x2,
+            y2: y2,
+            done: came + 1,
+        }));
+    }
+    done(in_phase(state, Phase::Idle))
+}

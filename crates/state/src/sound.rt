@@ -52,7 +52,7 @@ fn product(a: u16, b: u16) -> u16
 }
 
 // The bytes of data in line for corners in order.
-fn inline_bytes(x1: u8, y1: u8, x2: u8, y2: u8) -> u16
+pub fn inline_bytes(x1: u8, y1: u8, x2: u8, y2: u8) -> u16
     requires { ⌜ (x1 ≤ x2) × (y1 ≤ y2) ⌝ }
     ensures { λ r. ⌜ r ≡ inlineBytes x1 y1 x2 y2 ⌝ }
 {

@@ -1,1 +1,180 @@
-#[test] fn nothing() { assert!(true); }
+//! Streams and lists of calls over fixed seeds, the library beside the reference.
+
+use compare::compare::{Call, Pair};
+use compare::lists::{arrivals, run, run_seed, set_flow, takes, Cuts, Plan, Rooms, Run};
+use compare::memory::Memory;
+use compare::record::{FLOW, HELD, LOST, PLACE, REFUSALS};
+use compare::report::expect;
+use compare::{random, streams};
+use reference::board::Board;
+use reference::generator::program_stream;
+use reference::prng::Prng;
+use reference::properties::{scenes, SEEDS};
+
+/// All scenes with one way of cutting, each from its own beginning.
+fn all_scenes(count: u64, plan: impl Fn(u64) -> Plan) -> Pair {
+    let mut pair = Pair::default();
+    let font = pair.font().to_vec();
+    for scene in scenes(&font, count) {
+        let mut memory = Memory::of(&scene.begin);
+        let mut rng = Prng::new(scene.seed);
+        let result = run(&mut pair, &mut memory, &scene.stream, plan(scene.seed), &mut rng);
+        expect(&mut pair, &format!("scene {}", scene.seed), result);
+    }
+    pair
+}
+
+/// The same scenes with which the reference shows that it reaches every command and refusal.
+#[test]
+fn scenes_whole() {
+    let pair = all_scenes(SEEDS, |_| Plan::plain(Cuts::Whole));
+    assert!(pair.counts.bytes_fed > 1_000_000, "only {} bytes", pair.counts.bytes_fed);
+}
+
+#[test]
+fn scenes_byte_by_byte() {
+    all_scenes(300, |_| Plan::plain(Cuts::Bytes));
+}
+
+#[test]
+fn scenes_in_pieces_with_little_room() {
+    let pair = all_scenes(SEEDS, |seed| {
+        let cuts = [Cuts::Few, Cuts::Mixed, Cuts::Long, Cuts::Whole][seed as usize % 4];
+        let rooms = [Rooms::Scarce, Rooms::Mixed][seed as usize / 4 % 2];
+        Plan { cuts, rooms, between: 0 }
+    });
+    pair.counts.met("feed", 5, 10_000);
+}
+
+/// What the fuzzer does, over seeds that stay; every answer and signal is met.
+#[test]
+fn lists_of_calls() {
+    let mut pair = Pair::default();
+    for seed in 0..1500 {
+        let result = run_seed(&mut pair, seed);
+        expect(&mut pair, &format!("seed {seed}"), result);
+    }
+    let answers = [("start", &[0, 1, 2, 3, 4][..]), ("feed", &[0, 1, 2, 3, 4, 5]), ("arrive", &[0, 3, 7]), ("take", &[0, 3, 6])];
+    for (name, answers) in answers {
+        for &answer in answers {
+            pair.counts.met(name, answer, 100);
+        }
+    }
+    for signal in [254, 255] {
+        assert!(pair.counts.signals.get(&signal).is_some_and(|&count| count >= 100), "signal {signal}");
+    }
+}
+
+/// Every byte as the next one, from memory of every kind.
+#[test]
+fn every_next_byte() {
+    let mut pair = Pair::default();
+    let mut rng = Prng::new(11);
+    for number in 0..250 {
+        let memory = random::memory(&mut rng);
+        for byte in 0..=255 {
+            let result = pair.call(&mut memory.clone(), Call::Feed { piece: &[byte], room: 2 });
+            expect(&mut pair, &format!("memory {number}, byte {byte}"), result.map(drop));
+        }
+    }
+}
+
+/// The same piece with each room from none to more than enough.
+#[test]
+fn every_room() {
+    let mut pair = Pair::default();
+    let mut rng = Prng::new(12);
+    let uploads = |rng: &mut Prng| {
+        let mut stream = vec![254, 52, 3, 4, 254, 94, 200, 9, 0];
+        (0..9).for_each(|_| stream.extend([rng.byte(), 1]));
+        stream.extend([254, 36, 1, 1, 0, 254, 52, 5, 6, 65, 254, 112, 3, 3]);
+        stream
+    };
+    for number in 0..40 {
+        let board = Board::fresh(pair.font(), random::store(&mut rng));
+        let memory = if number % 2 == 0 { Memory::of(&board) } else { random::memory(&mut rng) };
+        let piece = if number % 4 < 2 { uploads(&mut rng) } else { streams::commands(&mut rng, &memory) };
+        for room in 0..40 {
+            let result = pair.call(&mut memory.clone(), Call::Feed { piece: &piece, room });
+            expect(&mut pair, &format!("memory {number}, room {room}"), result.map(drop));
+        }
+    }
+}
+
+/// Pieces and replies of more than two bytes' count.
+#[test]
+fn long_pieces() {
+    let mut pair = Pair::default();
+    let mut memory = Memory::of(&Board::fresh(pair.font(), vec![0; 32768]));
+    let mut piece = Vec::new();
+    for seed in 0.. {
+        piece.extend(program_stream(pair.font(), seed));
+        if piece.len() > 70_000 {
+            break;
+        }
+    }
+    let result = pair.call(&mut memory, Call::Feed { piece: &piece, room: 2 * piece.len() });
+    expect(&mut pair, "a long stream", result.map(drop));
+    memory.state = Memory::of(&Board::fresh(pair.font(), vec![0; 1024])).state;
+    let serial = [254, 52, 7, 9].repeat(40_000);
+    let result = pair.call(&mut memory, Call::Feed { piece: &serial, room: 100_000 });
+    expect(&mut pair, "many replies", result.map(drop));
+    assert!(pair.counts.replies > 65_536 && pair.counts.bytes_fed > 140_000);
+}
+
+/// Every pair of thresholds: the ring filled beyond its end and emptied beyond its beginning.
+#[test]
+fn every_threshold() {
+    let mut pair = Pair::default();
+    let mut rng = Prng::new(13);
+    let mut memory = random::memory(&mut rng);
+    for full in 0..80 {
+        for empty in 0..80 - full {
+            memory.state[FLOW..FLOW + 3].copy_from_slice(&[(full + empty) % 5 / 4 ^ 1, full, empty]);
+            memory.queue[PLACE] = rng.below(80) as u8;
+            let result = fill_and_empty(&mut pair, &mut memory, &mut rng);
+            expect(&mut pair, &format!("thresholds {full} {empty}"), result);
+        }
+    }
+}
+
+fn fill_and_empty(pair: &mut Pair, memory: &mut Memory, rng: &mut Prng) -> Run {
+    while pair.call(memory, Call::Arrive(rng.byte()))?.answer == 0 {}
+    while pair.call(memory, Call::Take)?.answer == 0 {}
+    Ok(())
+}
+
+/// Arrivals and takes with flow turned on, off and over between.
+#[test]
+fn flow_changed_between() {
+    let mut pair = Pair::default();
+    for seed in 0..400 {
+        let mut rng = Prng::new(seed);
+        let mut memory = random::memory(&mut rng);
+        let result = (0..40).try_for_each(|_| match rng.below(5) {
+            0 | 1 => arrivals(&mut pair, &mut memory, &mut rng),
+            2 | 3 => takes(&mut pair, &mut memory, &mut rng),
+            _ => set_flow(&mut pair, &mut memory, &mut rng),
+        });
+        expect(&mut pair, &format!("seed {seed}"), result);
+    }
+    assert!(pair.counts.signals.values().all(|&count| count > 100) && pair.counts.signals.len() == 2);
+}
+
+/// Both counts go from 65,535 to 0, through every carry from the low byte.
+#[test]
+fn counts_roll_over() {
+    let mut pair = Pair::default();
+    let mut memory = Memory::of(&Board::fresh(pair.font(), vec![0; 1024]));
+    memory.queue[HELD] = 80;
+    for count in [0u16, 1, 254, 255, 256, 511, 32767, 65279, 65280, 65534, 65535] {
+        memory.state[REFUSALS..REFUSALS + 2].copy_from_slice(&count.to_le_bytes());
+        memory.queue[LOST..].copy_from_slice(&count.to_le_bytes());
+        let result = pair.call(&mut memory, Call::Feed { piece: &[254, 3], room: 2 });
+        expect(&mut pair, &format!("refusals {count}"), result.map(drop));
+        assert_eq!(memory.state[REFUSALS..REFUSALS + 2], count.wrapping_add(1).to_le_bytes());
+        let result = pair.call(&mut memory, Call::Arrive(1));
+        expect(&mut pair, &format!("lost {count}"), result.map(drop));
+        assert_eq!(memory.queue[LOST..], count.wrapping_add(1).to_le_bytes());
+    }
+}

@@ -51,8 +51,10 @@ impl Counts {
         self.answers.iter().filter(|((call, _), _)| *call == name).map(|(_, count)| count).sum()
     }
 
-    pub fn reached(&self, name: &'static str, answer: u32) -> u64 {
-        self.answers.get(&(name, answer)).copied().unwrap_or(0)
+    /// For tests: fails where an answer was not met often enough to have been looked at.
+    pub fn met(&self, name: &'static str, answer: u32, least: u64) {
+        let count = self.answers.get(&(name, answer)).copied().unwrap_or(0);
+        assert!(count >= least, "answer {answer} of {name} was met {count} times, and not {least}");
     }
 }
 

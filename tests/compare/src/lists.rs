@@ -55,8 +55,13 @@ impl Plan {
 /// Everything that a seed stands for.
 pub fn run_seed(pair: &mut Pair, seed: u64) -> Run {
     let mut rng = Prng::new(seed ^ 0x00C0_FFEE);
-    let (mut memory, stream) = beginning(pair, seed, &mut rng)?;
-    let plan = Plan::any(&mut rng);
+    let (mut memory, mut stream) = beginning(pair, seed, &mut rng)?;
+    let mut plan = Plan::any(&mut rng);
+    if rng.below(500) == 0 {
+        // now and then more bytes in one piece than two bytes can count
+        stream = streams::noise(&mut rng, 70_000);
+        plan = Plan::plain(Cuts::Whole);
+    }
     run(pair, &mut memory, &stream, plan, &mut rng)?;
     if rng.percent(30) {
         damaged(pair, &memory, &stream, &mut rng, 12)?;

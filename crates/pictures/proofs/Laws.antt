@@ -1,0 +1,93 @@
+-- The rules of these commands, each way by itself.
+-- Assumes nothing.
+use mathlib.Core.Path.{_≡_, _∙_, refl, sym, ap}
+use mathlib.Core.Bool.{Bool, true, false, cond, not, _&&_}
+use mathlib.Core.List.{List, []}
+use native.Mathlib.Omega.{arith}
+use Prim.Native.Nat.{ℕ, _+_, _<_, _≤_}
+use lib.Dec.{leb, ltb}
+use lib.ListN.{take, drop}
+use borrow.Author.Tests.{lt-ltb, le-ltb, leb-true, ltb-true, not-true, not-false}
+use Rattle.file_laws.proofs.Written.{and-both}
+use Rattle.directory.specs.declared.Found.{Found}
+use Rattle.directory.specs.declared.Found.the-variants.{At, Nothing}
+use Rattle.directory.specs.Directory.{findOf}
+use Rattle.fonts.specs.declared.Check.{Check}
+use Rattle.fonts.specs.declared.Check.the-variants.{Good, Malformed}
+use Rattle.fonts.specs.Checks.{checkOf}
+use Rattle.fonts.specs.Bitmaps.{bitmapWidth, bitmapHeight, isBitmap}
+use Rattle.bitmap.specs.Bitmaps.{packedBox, inlineByte}
+use Rattle.state.specs.declared.Phase.the-variants.{Idle, Inline}
+use Rattle.state.specs.declared.State.{State}
+use Rattle.state.specs.Soundness.{inlineBytes, soundInline}
+use Rattle.rules.specs.World.{World, world, quietly, refused, Outcome as Ruled}
+use Rattle.rules.specs.Drawing.{ordered}
+use Rattle.rules.specs.Pictures.{bitmapIn, bitmapAt, showBitmap, beginInline, inlineData}
+use Rattle.outcome.specs.declared.Outcome.{Outcome}
+use Rattle.outcome.specs.Outcome.{inPhaseOf}
+use Rattle.outcome.specs.Contract.{Came, Paints, Shows}
+
+good-is : (t : Bool) → checkOf t ≡ Good → t ≡ true
+good-is true e = refl
+good-is false e = cc
+
+malformed-is : (t : Bool) → checkOf t ≡ Malformed → t ≡ false
+malformed-is true e = cc
+malformed-is false e = refl
+
+module _ (g s : List ℕ) (st : State) (f : List ℕ) (x y : ℕ) (c : Check) (checked : c ≡ checkOf (isBitmap f)) where
+  pub bitmap-23 : c ≡ Malformed → bitmapIn (world g s st) f x y ≡ refused 23 []
+  unfolding bitmapIn
+  bitmap-23 e = rw (malformed-is (isBitmap f) (sym checked ∙ e))
+
+  pub bitmap-done : (g' bits : List ℕ) (v h : ℕ) → c ≡ Good → bits ≡ drop 2 f → v ≡ bitmapWidth f → h ≡ bitmapHeight f → g' ≡ packedBox x y v h bits g
+      → bitmapIn (world g s st) f x y ≡ quietly (world g' s st)
+  unfolding bitmapIn
+  bitmap-done g' bits v h e d dv dh o = rw (good-is (isBitmap f) (sym checked ∙ e), o, d, dv, dh)
+
+pub show-22 : (w : World) (n x y : ℕ) (f : Found) → f ≡ findOf (w .store) 2 n → f ≡ Nothing → showBitmap w n x y ≡ refused 22 []
+unfolding showBitmap bitmapAt
+show-22 w n x y f e h = rw (← e, h)
+
+pub show-found : (w : World) (n x y p a z : ℕ) (f : Found) (l : List ℕ) → f ≡ findOf (w .store) 2 n → f ≡ At p a z → l ≡ take z (drop a (w .store))
+    → showBitmap w n x y ≡ bitmapIn w l x y
+unfolding showBitmap bitmapAt
+show-found w n x y p a z f l e h d = rw (← e, h, d)
+
+-- the file's picture is the command's
+pub shown : {st : State} {g g' s : List ℕ} {r : Outcome} (n x y : ℕ) (l : List ℕ) → Paints (λ w. bitmapIn w l x y) st g g' r
+    → showBitmap (world g s st) n x y ≡ bitmapIn (world g s st) l x y → Shows (λ w. showBitmap w n x y) st g g' s r
+shown {s = s} n x y l p e = record { came = rw e (p .came s) }
+
+-- ---- data in line
+
+pub inline-18 : (w : World) (x1 y1 x2 y2 : ℕ) (t : Bool) → t ≡ ordered x1 y1 x2 y2 → not t ≡ true → beginInline w x1 y1 x2 y2 ≡ refused 18 []
+unfolding beginInline
+inline-18 w x1 y1 x2 y2 t e f = rw (← e, f)
+
+pub inline-done : (g s : List ℕ) (st : State) (x1 y1 x2 y2 : ℕ) (t : Bool) → t ≡ ordered x1 y1 x2 y2 → not t ≡ false
+    → beginInline (world g s st) x1 y1 x2 y2 ≡ quietly (world g s (inPhaseOf st (Inline x1 y1 x2 y2 0)))
+unfolding beginInline
+inline-done g s st x1 y1 x2 y2 t e f = rw (← e, f)
+
+-- what sound data in line gives
+pub record Coming (x1 y1 x2 y2 d : ℕ) : Type 0 where
+  pub columns : x1 ≤ x2
+  pub rows : y1 ≤ y2
+  pub left : d < inlineBytes x1 y1 x2 y2
+
+pub coming : (x1 y1 x2 y2 d : ℕ) → soundInline x1 y1 x2 y2 d ≡ true → Coming x1 y1 x2 y2 d
+unfolding soundInline
+coming x1 y1 x2 y2 d e =
+    let p = and-both (leb x1 x2) (leb y1 y2 && ltb d (inlineBytes x1 y1 x2 y2)) e in
+    let q = and-both (leb y1 y2) (ltb d (inlineBytes x1 y1 x2 y2)) (p .1) in
+    record { columns = leb-true x1 x2 (p .0); rows = leb-true y1 y2 (q .0); left = ltb-true d (inlineBytes x1 y1 x2 y2) (q .1) }
+
+module _ (g s : List ℕ) (st : State) (x1 y1 x2 y2 d b : ℕ) (g' : List ℕ) (n : ℕ) (painted : g' ≡ inlineByte x1 y1 x2 y2 d b g) (all : n ≡ inlineBytes x1 y1 x2 y2) where
+  pub data-more : d + 1 < n → inlineData (world g s st) x1 y1 x2 y2 d b ≡ quietly (world g' s (inPhaseOf st (Inline x1 y1 x2 y2 (d + 1))))
+  unfolding inlineData
+  data-more l = rw (← all, lt-ltb (d + 1) n l, painted)
+
+  pub data-last : n ≤ d + 1 → inlineData (world g s st) x1 y1 x2 y2 d b ≡ quietly (world g' s (inPhaseOf st Idle))
+  unfolding inlineData
+  data-last l = rw (← all, le-ltb (d + 1) n l, painted)

@@ -1,0 +1,157 @@
+-- The rules of these commands, each way by itself.
+-- Assumes nothing.
+use mathlib.Core.Path.{_≡_, _∙_, refl, sym, ap}
+use mathlib.Core.Bool.{Bool, true, false, cond, not, _&&_, _||_}
+use mathlib.Core.List.{List, [], _∷_}
+use native.Mathlib.Omega.{arith}
+use Prim.Native.Nat.{ℕ, _+_, _-_, _<_, _≤_}
+use lib.Dec.{eqb, leb, ltb}
+use lib.ListN.{length}
+use borrow.Author.Tests.{not-true, not-false, eq-eqb, ne-eqb, lt-ltb, le-ltb, le-leb, lt-leb}
+use Rattle.pixels.specs.Framebuffer.{height}
+use Rattle.directory.specs.declared.Entry.{Entry}
+use Rattle.directory.specs.declared.Totals.{Totals}
+use Rattle.directory.specs.declared.Found.{Found}
+use Rattle.directory.specs.declared.Found.the-variants.{At, Nothing}
+use Rattle.directory.specs.Directory.{entries, totalsOf, isFile, hasFile, findIn, findOf, lengthOf}
+use Rattle.files.specs.Files.{unusedOf, entry, appended, isThere, deleted, purged, storedByte}
+use Rattle.state.specs.declared.Phase.the-variants.{Idle, Upload}
+use Rattle.state.specs.declared.State.{State}
+use Rattle.state.specs.declared.Text.{Text}
+use Rattle.state.specs.State.{startText}
+use Rattle.rules.specs.World.{World, world, done, quietly, refused}
+use Rattle.rules.specs.Text.{withFont}
+use Rattle.rules.specs.Files.{inUse, noRoom, beginUpload, uploadData, deleteFile, purge}
+use Rattle.outcome.specs.declared.Outcome.{Outcome}
+use Rattle.outcome.specs.declared.Reply.{Reply}
+use Rattle.outcome.specs.Outcome.{inPhaseOf, putTextOf, refusedState, sendingOf, oneByte}
+use Rattle.storage.specs.Storage.{tellingOf}
+
+-- ---- the tests
+
+there-or : (t : Bool) (f : Found) (b : Bool) (p a z : ℕ) → isThere f ≡ b → isThere (cond t (At p a z) f) ≡ (t || b)
+there-or true f b p a z e = refl
+there-or false f b p a z e = e
+
+found-has : (es : List Entry) (p a k n : ℕ) → isThere (findIn es p a k n) ≡ hasFile es k n
+unfolding findIn hasFile
+found-has [] p a k n = refl
+found-has (e ∷ es) p a k n =
+    there-or (isFile e k n) (findIn es (p + lengthOf (e .kind)) (a + e .size) k n) (hasFile es k n) p a (e .size) (found-has es (p + lengthOf (e .kind)) (a + e .size) k n)
+
+pub stored-not : (s : List ℕ) (k n : ℕ) (f : Found) → f ≡ findOf s k n → f ≡ Nothing → false ≡ hasFile (entries s) k n
+stored-not s k n f e h = sym (ap isThere h) ∙ ap isThere e ∙ found-has (entries s) 0 256 k n
+
+pub stored-yes : (s : List ℕ) (k n p a z : ℕ) (f : Found) → f ≡ findOf s k n → f ≡ At p a z → true ≡ hasFile (entries s) k n
+stored-yes s k n p a z f e h = sym (ap isThere h) ∙ ap isThere e ∙ found-has (entries s) 0 256 k n
+
+pub built-in-used : (s : List ℕ) (k n : ℕ) → k ≡ 1 → n ≡ 1 → true ≡ inUse s k n
+built-in-used s k n e f = rw (e, f)
+
+-- the tests of a font, where they came out so
+pub record Other (k n : ℕ) : Type 0 where
+  pub differ : (eqb k 1 && eqb n 1) ≡ false
+
+pub other-kind : (k n : ℕ) → (k ≡ 1 → ⊥) → Other k n
+other-kind k n h = record { differ = rw (ne-eqb k 1 h) }
+
+pub other-number : (k n : ℕ) → k ≡ 1 → (n ≡ 1 → ⊥) → Other k n
+other-number k n e h = record { differ = rw (eq-eqb k 1 e, ne-eqb n 1 h) }
+
+pub used-if-stored : (s : List ℕ) (k n : ℕ) (t : Bool) → Other k n → t ≡ hasFile (entries s) k n → t ≡ inUse s k n
+used-if-stored s k n t o e = rw (o .differ) e
+
+pub no-size : (s : List ℕ) (z : ℕ) → z ≡ 0 → true ≡ noRoom s z
+no-size s z e = rw e
+
+pub no-place : (s : List ℕ) (z : ℕ) (t : Totals) → (z ≡ 0 → ⊥) → t ≡ totalsOf (entries s) → 63 ≤ t .count → true ≡ noRoom s z
+no-place s z t h e l =
+    let c : t .count ≡ length (entries s) = ap (λ (u : Totals). u .count) e in
+    rw (ne-eqb z 0 h, le-leb 63 (length (entries s)) (omega (arith, c)))
+
+pub no-bytes : (s : List ℕ) (z u : ℕ) (t : Totals) → (z ≡ 0 → ⊥) → t ≡ totalsOf (entries s) → t .count < 63 → u ≡ unusedOf s → ltb u z ≡ noRoom s z
+no-bytes s z u t h e l f =
+    let c : t .count ≡ length (entries s) = ap (λ (u : Totals). u .count) e in
+    rw (ne-eqb z 0 h, lt-leb 63 (length (entries s)) (omega (arith, c)), f)
+
+pub away-used : (s : List ℕ) (k n z : ℕ) (t : Bool) → t ≡ inUse s k n → t ≡ true → true ≡ (inUse s k n || noRoom s z)
+away-used s k n z t e h = rw (← e, h)
+
+pub away-room : (s : List ℕ) (k n z : ℕ) (t u : Bool) → t ≡ inUse s k n → t ≡ false → u ≡ noRoom s z → u ≡ (inUse s k n || noRoom s z)
+away-room s k n z t u e h f = f ∙ rw (← e, h)
+
+pub telling-is : (st n : State) (k : ℕ) (q : Reply) (r : Outcome) → n ≡ refusedState st k → q ≡ oneByte 8 → r ≡ sendingOf n q → r ≡ tellingOf st k
+telling-is st n k q r e f h = h ∙ rw (e, f)
+
+-- ---- uploads
+
+module _ (g s : List ℕ) (st : State) (k n z : ℕ) where
+  pub upload-25 : (t : Bool) → t ≡ inUse s k n → t ≡ true → beginUpload (world g s st) k n z ≡ refused 25 (8 ∷ [])
+  unfolding beginUpload
+  upload-25 t e h = rw (← e, h)
+
+  pub upload-24 : (t u : Bool) → t ≡ inUse s k n → t ≡ false → u ≡ noRoom s z → u ≡ true → beginUpload (world g s st) k n z ≡ refused 24 (8 ∷ [])
+  unfolding beginUpload
+  upload-24 t u e h f o = rw (← e, h, ← f, o)
+
+  pub upload-done : (t u : Bool) → t ≡ inUse s k n → t ≡ false → u ≡ noRoom s z → u ≡ false
+      → beginUpload (world g s st) k n z ≡ done (world g s (inPhaseOf st (Upload k n z 0 false 0))) (1 ∷ [])
+  unfolding beginUpload
+  upload-done t u e h f o = rw (← e, h, ← f, o)
+
+  module _ (i c b : ℕ) where
+    pub data-echoed : (v : Bool) → not v ≡ true → uploadData (world g s st) k n z i v c b ≡ done (world g s (inPhaseOf st (Upload k n z i true b))) (b ∷ [])
+    unfolding uploadData
+    data-echoed v e = rw (not-true v e)
+
+    pub data-26 : (v : Bool) → not v ≡ false → (b ≡ 1 → ⊥) → uploadData (world g s st) k n z i v c b ≡ refused 26 []
+    unfolding uploadData
+    data-26 v e h = rw (not-false v e, ne-eqb b 1 h)
+
+    pub data-more : (v : Bool) (s' : List ℕ) → not v ≡ false → b ≡ 1 → i + 1 < z → s' ≡ storedByte s i c
+        → uploadData (world g s st) k n z i v c b ≡ quietly (world g s' (inPhaseOf st (Upload k n z (i + 1) false 0)))
+    unfolding uploadData
+    data-more v s' e h l f = rw (not-false v e, eq-eqb b 1 h, lt-ltb (i + 1) z l, f)
+
+    pub data-last : (v : Bool) (s' s'' : List ℕ) → not v ≡ false → b ≡ 1 → z ≤ i + 1 → s' ≡ storedByte s i c → s'' ≡ appended s' (entry k n z)
+        → uploadData (world g s st) k n z i v c b ≡ quietly (world g s'' (inPhaseOf st Idle))
+    unfolding uploadData
+    data-last v s' s'' e h l f d = rw (not-false v e, eq-eqb b 1 h, le-ltb (i + 1) z l, d, f)
+
+-- ---- delete and purge
+
+module _ (g s : List ℕ) (st : State) (t n : ℕ) where
+  pub delete-20 : 2 ≤ t → deleteFile (world g s st) t n ≡ refused 20 []
+  unfolding deleteFile
+  delete-20 l = rw (le-leb 2 t l)
+
+  pub delete-22 : (b : Bool) → t < 2 → b ≡ hasFile (entries s) (t + 1) n → not b ≡ true → deleteFile (world g s st) t n ≡ refused 22 []
+  unfolding deleteFile
+  delete-22 b l e h = rw (lt-leb 2 t l, ← e, h)
+
+  module _ (s' : List ℕ) (b : Bool) (l : t < 2) (e : b ≡ hasFile (entries s) (t + 1) n) (h : not b ≡ false) (gone : s' ≡ deleted s (t + 1) n) where
+    pub delete-chosen : t + 1 ≡ 1 → n ≡ st .port .text .font → deleteFile (world g s st) t n ≡ quietly (world g s' (putTextOf st (withFont (st .port .text) 1)))
+    unfolding deleteFile
+    delete-chosen k f = rw (lt-leb 2 t l, ← e, h, ← gone, eq-eqb (t + 1) 1 k, eq-eqb n (st .port .text .font) f)
+
+    pub delete-bitmap : (t + 1 ≡ 1 → ⊥) → deleteFile (world g s st) t n ≡ quietly (world g s' st)
+    unfolding deleteFile
+    delete-bitmap k = rw (lt-leb 2 t l, ← e, h, ← gone, ne-eqb (t + 1) 1 k)
+
+    pub delete-other : (n ≡ st .port .text .font → ⊥) → t + 1 ≡ 1 → deleteFile (world g s st) t n ≡ quietly (world g s' st)
+    unfolding deleteFile
+    delete-other f k = rw (lt-leb 2 t l, ← e, h, ← gone, eq-eqb (t + 1) 1 k, ne-eqb n (st .port .text .font) f)
+
+module _ (g s : List ℕ) (st : State) (a b : ℕ) where
+  pub purge-first : (a ≡ 89 → ⊥) → purge (world g s st) a b ≡ refused 20 []
+  unfolding purge
+  purge-first h = rw (ne-eqb a 89 h)
+
+  pub purge-second : a ≡ 89 → (b ≡ 33 → ⊥) → purge (world g s st) a b ≡ refused 20 []
+  unfolding purge
+  purge-second e h = rw (eq-eqb a 89 e, ne-eqb b 33 h)
+
+  pub purge-done : (s' : List ℕ) (h : ℕ) → height g ≡ h → a ≡ 89 → b ≡ 33 → s' ≡ purged s
+      → purge (world g s st) a b ≡ quietly (world g s' (putTextOf st (startText h)))
+  unfolding purge
+  purge-done s' h t e f d = rw (eq-eqb a 89 e, eq-eqb b 33 f, d, t)

@@ -1,0 +1,209 @@
+// Commands of files: upload, delete, purge.
+use directory::BUILT_IN_FONT;
+use directory::FONT;
+use directory::Found;
+use directory::MAX_FILES;
+use directory::find;
+use directory::tally;
+use files::append;
+use files::delete;
+use files::store_byte;
+use files::unused;
+use outcome::BROKEN_OFF;
+use outcome::NO_FILE;
+use outcome::NO_SPACE;
+use outcome::NUMBER_IN_USE;
+use outcome::Outcome;
+use outcome::UNKNOWN_TYPE;
+use outcome::done;
+use outcome::in_phase;
+use outcome::one_byte;
+use outcome::put_text;
+use outcome::refuse;
+use outcome::refused;
+use outcome::sending;
+use state::Phase;
+use state::State;
+use state::start_text;
+ghost use mathlib.Core.Path.{_≡_};
+ghost use mathlib.Core.Bool.{_||_};
+ghost use Prim.Native.Nat.{_<_};
+ghost use Rattle.directory.specs.Directory.{entries, hasFile};
+ghost use Rattle.rules.specs.Files.{inUse, noRoom, beginUpload, uploadData, deleteFile, purge};
+ghost use Rattle.outcome.specs.Contract.{Stores, StoresOn};
+ghost use Rattle.storage.specs.Storage.{tellingOf};
+
+// The replies of the upload's handshake, and the host's confirmation.
+const WELCOME: u8 = 1;
+
+const TURNED_AWAY: u8 = 8;
+
+const CONFIRM: u8 = 1;
+
+// Types of a delete are numbers below this; the kind is one more.
+const TYPES: u8 = 2;
+
+// The bytes behind a purge's code.
+const PURGE_FIRST: u8 = 89;
+
+const PURGE_SECOND: u8 = 33;
+
+// Whether the directory has a file of this kind and number.
+pub fn is_stored(store: &[u8], kind: u8, number: u8) -> bool
+    ensures { λ r. ⌜ r ≡ hasFile (entries (now (store .entry))) kind number ⌝ }
+{
+    let found = find(store, kind, number);
+    let Found::At {
+        record: _,
+        start: _,
+        size: _,
+    } = found
+    else {
+        return false;
+    };
+    true
+}
+
+// Font 1 always is.
+fn is_in_use(store: &[u8], kind: u8, number: u8) -> bool
+    ensures { λ r. ⌜ r ≡ inUse (now (store .entry)) kind number ⌝ }
+{
+    if kind != FONT {
+        return is_stored(store, kind, number);
+    }
+    if number != BUILT_IN_FONT {
+        return is_stored(store, kind, number);
+    }
+    true
+}
+
+fn lacks_room(store: &[u8], size: u16) -> bool
+    ensures { λ r. ⌜ r ≡ noRoom (now (store .entry)) size ⌝ }
+{
+    if size == 0 {
+        return true;
+    }
+    let t = tally(store);
+    if MAX_FILES <= t.count {
+        return true;
+    }
+    unused(store) < size as usize
+}
+
+// Whether an upload is refused.
+pub fn is_turned_away(store: &[u8], kind: u8, number: u8, size: u16) -> bool
+    ensures { λ r. ⌜ r ≡ (inUse (now (store .entry)) kind number || noRoom (now (store .entry)) size) ⌝ }
+{
+    if is_in_use(store, kind, number) {
+        return true;
+    }
+    lacks_room(store, size)
+}
+
+// A refusal that is answered.
+fn telling(state: State, number: u8) -> Outcome
+    ensures { λ r. ⌜ r ≡ tellingOf state number ⌝ }
+{
+    sending(refuse(state, number), one_byte(TURNED_AWAY))
+}
+
+pub fn begin_upload(store: &[u8], state: State, kind: u8, number: u8, size: u16) -> Outcome
+    ensures { λ r. ⌜ Stores (λ w. beginUpload w kind number size) state (now (store .entry)) (now (store .entry)) r ⌝ }
+{
+    if is_in_use(store, kind, number) {
+        return telling(state, NUMBER_IN_USE);
+    }
+    if lacks_room(store, size) {
+        return telling(state, NO_SPACE);
+    }
+    let next = in_phase(
+        state,
+        Phase::Upload {
+            kind: kind,
+            number: number,
+            size: size,
+            stored: 0,
+            waiting: false,
+            byte: 0,
+        },
+    );
+    sending(next, one_byte(WELCOME))
+}
+
+// A data byte is echoed and waits; confirmed, it is stored at the next free byte, and at the last one the record is written.
+pub fn upload_data(store: &mut [u8], state: State, kind: u8, number: u8, size: u16, stored: u16, waiting: bool, held: u8, byte: u8) -> Outcome
+    requires { ⌜ stored < size ⌝ }
+    ensures { λ r. ⌜ Stores (λ w. uploadData w kind number size stored waiting held byte) state (now (store .entry)) (now (store .exit)) r ⌝ }
+{
+    if !waiting {
+        let next = in_phase(
+            state,
+            Phase::Upload {
+                kind: kind,
+                number: number,
+                size: size,
+                stored: stored,
+                waiting: true,
+                byte: byte,
+            },
+        );
+        return sending(next, one_byte(byte));
+    }
+    if byte != CONFIRM {
+        return refused(state, BROKEN_OFF);
+    }
+    store_byte(store, stored, held);
+    if stored + 1 < size {
+        let next = in_phase(
+            state,
+            Phase::Upload {
+                kind: kind,
+                number: number,
+                size: size,
+                stored: stored + 1,
+                waiting: false,
+                byte: 0,
+            },
+        );
+        return done(next);
+    }
+    append(store, kind, number, size);
+    done(in_phase(state, Phase::Idle))
+}
+
+// A deleted font that was the current one leaves font 1.
+pub fn delete_file(store: &mut [u8], state: State, of_type: u8, number: u8) -> Outcome
+    ensures { λ r. ⌜ Stores (λ w. deleteFile w «of_type» number) state (now (store .entry)) (now (store .exit)) r ⌝ }
+{
+    if of_type >= TYPES {
+        return refused(state, UNKNOWN_TYPE);
+    }
+    let kind = of_type + 1;
+    if !is_stored(store, kind, number) {
+        return refused(state, NO_FILE);
+    }
+    delete(store, kind, number);
+    if kind != FONT {
+        return done(state);
+    }
+    let mut text = state.port.text;
+    if number != text.font {
+        return done(state);
+    }
+    text.font = BUILT_IN_FONT;
+    done(put_text(state, text))
+}
+
+// Text settings go back to the start, and the text point home.
+pub fn purge(store: &mut [u8], state: State, height: u8, first: u8, second: u8) -> Outcome
+    ensures { λ r. ⌜ StoresOn height (λ w. purge w first second) state (now (store .entry)) (now (store .exit)) r ⌝ }
+{
+    if first != PURGE_FIRST {
+        return refused(state, UNKNOWN_TYPE);
+    }
+    if second != PURGE_SECOND {
+        return refused(state, UNKNOWN_TYPE);
+    }
+    files::purge(store);
+    done(put_text(state, start_text(height)))
+}
