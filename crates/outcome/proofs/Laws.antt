@@ -13,7 +13,7 @@ use Rattle.rules.specs.Step.{refusals, after, sent, refuse}
 use Rattle.outcome.specs.declared.Outcome.{Outcome}
 use Rattle.outcome.specs.declared.Reply.{Reply}
 use Rattle.outcome.specs.Outcome.{sentBy, inPhaseOf, withPortOf, putTextOf, refusedState, refusedOf, doneOf, sendingOf, oneByte, twoBytes}
-use Rattle.outcome.specs.Contract.{Came, Sets, SetsOn, Paints, Stores, StoresOn, Shows, ShowsOn}
+use Rattle.outcome.specs.Contract.{Came, Sets, SetsOn, Paints, PaintsOn, Stores, StoresOn, Shows, ShowsOn}
 
 pub refuse-is : (s t v : State) (n c : ℕ) → t ≡ inPhaseOf s Idle → c ≡ (s .port .refusals .count + 1) % 65536
     → v ≡ withPortOf s (withRefusals (t .port) (refusals c n)) → v ≡ refusedState s n
@@ -77,6 +77,14 @@ paints-refused n f e = record { came = λ s. came-refused _ s _ _ n _ (e s) f }
 pub paints-done : {rule : World → Ruled} {st : State} {g g' : List ℕ} {r : Outcome} (st' : State) → r ≡ doneOf st'
     → ((s : List ℕ) → rule (world g s st) ≡ quietly (world g' s st')) → Paints rule st g g' r
 paints-done st' f e = record { came = λ s. came-done _ _ s st' _ _ (e s) f }
+
+pub paints-on-refused : (n : ℕ) {h : ℕ} {rule : World → Ruled} {st : State} {g : List ℕ} {r : Outcome} → r ≡ refusedOf st n
+    → ((s : List ℕ) → height g ≡ h → rule (world g s st) ≡ refused n []) → PaintsOn h rule st g g r
+paints-on-refused n f e = record { came = λ s t. came-refused _ s _ _ n _ (e s t) f }
+
+pub paints-on-done : {h : ℕ} {rule : World → Ruled} {st : State} {g g' : List ℕ} {r : Outcome} (st' : State) → r ≡ doneOf st'
+    → ((s : List ℕ) → height g ≡ h → rule (world g s st) ≡ quietly (world g' s st')) → PaintsOn h rule st g g' r
+paints-on-done st' f e = record { came = λ s t. came-done _ _ s st' _ _ (e s t) f }
 
 pub stores-refused : (n : ℕ) {rule : World → Ruled} {st : State} {s : List ℕ} {r : Outcome} → r ≡ refusedOf st n → ((g : List ℕ) → rule (world g s st) ≡ refused n []) → Stores rule st s s r
 stores-refused n f e = record { came = λ g. came-refused g _ _ _ n _ (e g) f }

@@ -27,6 +27,10 @@ pub record SetsOn (h : ℕ) (rule : World → Ruled) (st : State) (r : Outcome) 
 pub record Paints (rule : World → Ruled) (st : State) (g g' : List ℕ) (r : Outcome) : Type 0 where
   pub came : (s : List ℕ) → Came (world g s st) (rule (world g s st)) (world g' s (r .state)) (sentBy (r .reply))
 
+-- the same, and told its height
+pub record PaintsOn (h : ℕ) (rule : World → Ruled) (st : State) (g g' : List ℕ) (r : Outcome) : Type 0 where
+  pub came : (s : List ℕ) → height g ≡ h → Came (world g s st) (rule (world g s st)) (world g' s (r .state)) (sentBy (r .reply))
+
 -- lent the store s, and leaving it as s'
 pub record Stores (rule : World → Ruled) (st : State) (s s' : List ℕ) (r : Outcome) : Type 0 where
   pub came : (g : List ℕ) → Came (world g s st) (rule (world g s st)) (world g s' (r .state)) (sentBy (r .reply))

@@ -79,9 +79,9 @@ pub record Coming (x1 y1 x2 y2 d : ℕ) : Type 0 where
 pub coming : (x1 y1 x2 y2 d : ℕ) → soundInline x1 y1 x2 y2 d ≡ true → Coming x1 y1 x2 y2 d
 unfolding soundInline
 coming x1 y1 x2 y2 d e =
-    let p = and-both (leb x1 x2) (leb y1 y2 && ltb d (inlineBytes x1 y1 x2 y2)) e in
-    let q = and-both (leb y1 y2) (ltb d (inlineBytes x1 y1 x2 y2)) (p .1) in
-    record { columns = leb-true x1 x2 (p .0); rows = leb-true y1 y2 (q .0); left = ltb-true d (inlineBytes x1 y1 x2 y2) (q .1) }
+    let p = and-both (leb x1 x2 && leb y1 y2) (ltb d (inlineBytes x1 y1 x2 y2)) e in
+    let q = and-both (leb x1 x2) (leb y1 y2) (p .0) in
+    record { columns = leb-true x1 x2 (q .0); rows = leb-true y1 y2 (q .1); left = ltb-true d (inlineBytes x1 y1 x2 y2) (p .1) }
 
 module _ (g s : List ℕ) (st : State) (x1 y1 x2 y2 d b : ℕ) (g' : List ℕ) (n : ℕ) (painted : g' ≡ inlineByte x1 y1 x2 y2 d b g) (all : n ≡ inlineBytes x1 y1 x2 y2) where
   pub data-more : d + 1 < n → inlineData (world g s st) x1 y1 x2 y2 d b ≡ quietly (world g' s (inPhaseOf st (Inline x1 y1 x2 y2 (d + 1))))

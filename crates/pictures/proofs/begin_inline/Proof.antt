@@ -1,3 +1,5 @@
+use Rattle.pictures.proofs.Laws.{inline-18, inline-done}
+use Rattle.outcome.proofs.Laws.{sets-refused, sets-done, done-with}
 use borrow.Author.Needs.{needs}
 use Rattle.pictures.proofs.begin_inline.Statement.{statement}
 use Rattle.pictures.proofs.begin_inline.Tie as tie
@@ -18,7 +20,7 @@ refused-requires c κs = search needs
 
 -- src/lib.rt:64:9
 returns : tie.Need-returns
-returns c = ?
+returns c = sets-refused 18 (c .refused .ensures) (λ g s. inline-18 _ _ _ _ _ _ (c .before .before .is-ordered .ensures) (search needs))
 
 -- src/lib.rt:66:10
 in-phase-requires : tie.Need-in-phase-requires
@@ -30,7 +32,7 @@ done-requires c κs = search needs
 
 -- src/lib.rt:60:1
 returns-2 : tie.Need-returns-2
-returns-2 c = ?
+returns-2 c = sets-done _ (done-with (c .before .in-phase .ensures) (c .done .ensures)) (λ g s. inline-done _ _ _ _ _ _ _ _ (c .before .before .before .is-ordered .ensures) (search needs))
 
 pub begin-inline-spec : {M : Type 1} → statement M
 begin-inline-spec =

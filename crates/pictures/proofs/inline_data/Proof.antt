@@ -1,3 +1,6 @@
+use Rattle.pictures.proofs.Laws.{coming, data-more, data-last}
+use Rattle.outcome.proofs.Laws.{paints-done, done-with}
+use native.Mathlib.Omega.{arith}
 use borrow.Author.Needs.{needs}
 use Rattle.pictures.proofs.inline_data.Statement.{statement}
 use Rattle.pictures.proofs.inline_data.Tie as tie
@@ -14,11 +17,11 @@ paint-inline-requires c κs = search needs
 
 -- src/lib.rt:81:9
 inline-bytes-requires : tie.Need-inline-bytes-requires
-inline-bytes-requires c κs = ?
+inline-bytes-requires c κs = (coming _ _ _ _ _ (c .before .before .before .before .before .pre) .columns, coming _ _ _ _ _ (c .before .before .before .before .before .pre) .rows)
 
 -- src/lib.rt:82:8
 add-if1 : tie.Need-add-if1
-add-if1 c = ?
+add-if1 c = omega (arith, coming (c .before .before .before .before .before .before .args .x1) (c .before .before .before .before .before .before .args .y1) (c .before .before .before .before .before .before .args .x2) (c .before .before .before .before .before .before .args .y2) (c .before .before .before .before .before .before .args .came) (c .before .before .before .before .before .before .pre) .left, c .inline-bytes .ensures)
 
 -- src/lib.rt:88:19
 add-t16 : tie.Need-add-t16
@@ -38,7 +41,7 @@ same-length c = search needs
 
 -- src/lib.rt:83:9
 returns : tie.Need-returns
-returns c = ?
+returns c = paints-done _ (done-with (c .before .in-phase .ensures) (c .done .ensures)) (λ s. data-more _ _ _ _ _ _ _ _ _ _ _ (c .before .before .before .before .before .before .paint-inline .ensures) (c .before .before .before .inline-bytes .ensures) (search needs))
 
 -- src/lib.rt:91:10
 in-phase-requires-2 : tie.Need-in-phase-requires-2
@@ -54,7 +57,7 @@ same-length-2 c = search needs
 
 -- src/lib.rt:76:1
 returns-2 : tie.Need-returns-2
-returns-2 c = ?
+returns-2 c = paints-done _ (done-with (c .before .in-phase2 .ensures) (c .done2 .ensures)) (λ s. data-last _ _ _ _ _ _ _ _ _ _ _ (c .before .before .before .before .before .before .paint-inline .ensures) (c .before .before .before .inline-bytes .ensures) (search needs))
 
 pub inline-data-spec : {M : Type 1} → statement M
 inline-data-spec =

@@ -1,3 +1,5 @@
+use Rattle.pictures.proofs.Laws.{show-22, show-found, shown}
+use Rattle.outcome.proofs.Laws.{shows-refused}
 use borrow.Author.Needs.{needs}
 use Rattle.pictures.proofs.show_bitmap.Statement.{statement}
 use Rattle.pictures.proofs.show_bitmap.Tie as tie
@@ -26,7 +28,7 @@ refused-requires c κs = search needs
 
 -- src/lib.rt:54:9
 returns : tie.Need-returns
-returns c = ?
+returns c = shows-refused 22 (c .refused .ensures) (show-22 _ _ _ _ _ (c .before .before .before .find .ensures) (search needs))
 
 -- src/lib.rt:56:9
 part-requires : tie.Need-part-requires
@@ -42,7 +44,7 @@ same-length c = search needs
 
 -- src/lib.rt:44:1
 returns-2 : tie.Need-returns-2
-returns-2 c = ?
+returns-2 c = shown _ _ _ _ (c .before .before .show-file .ensures) (show-found _ _ _ _ _ _ _ _ _ (c .before .before .before .before .before .before .before .before .find .ensures) (c .before .before .before .before .before .before .found .given .1) (c .before .before .before .before .part .ensures))
 
 pub show-bitmap-spec : {M : Type 1} → statement M
 show-bitmap-spec =

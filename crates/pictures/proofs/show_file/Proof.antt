@@ -1,3 +1,5 @@
+use Rattle.pictures.proofs.Laws.{bitmap-23, bitmap-done}
+use Rattle.outcome.proofs.Laws.{paints-refused, paints-done}
 use borrow.Author.Needs.{needs}
 use Rattle.pictures.proofs.show_file.Statement.{statement}
 use Rattle.pictures.proofs.show_file.Tie as tie
@@ -28,7 +30,7 @@ refused-requires c κs = search needs
 
 -- src/lib.rt:37:9
 returns : tie.Need-returns
-returns c = ?
+returns c = paints-refused 23 (c .refused .ensures) (λ s. bitmap-23 _ _ _ _ _ _ _ (c .before .before .before .check-bitmap .ensures) (search needs))
 
 -- src/lib.rt:39:9
 rest-requires : tie.Need-rest-requires
@@ -56,7 +58,7 @@ same-length c = search needs
 
 -- src/lib.rt:32:1
 returns-2 : tie.Need-returns-2
-returns-2 c = ?
+returns-2 c = paints-done _ (c .done .ensures) (λ s. bitmap-done _ _ _ _ _ _ _ (c .before .before .before .before .before .before .before .before .before .before .check-bitmap .ensures) _ _ _ _ (search needs) (c .before .before .before .before .before .before .before .rest .ensures) (c .before .before .before .before .before .bitmap-width .ensures) (c .before .before .before .before .bitmap-height .ensures) (c .before .before .before .paint-packed .ensures))
 
 pub show-file-spec : {M : Type 1} → statement M
 show-file-spec =

@@ -1,0 +1,134 @@
+-- The rules of text, each way by itself.
+-- Assumes nothing.
+use mathlib.Core.Path.{_≡_, _∙_, refl, sym, ap}
+use mathlib.Core.Bool.{Bool, true, false, cond, not, _&&_, _||_}
+use mathlib.Core.List.{List, [], _∷_}
+use native.Mathlib.Omega.{arith}
+use native.Mathlib.Nat.{mul-le-mul}
+use Prim.Native.Nat.{ℕ, _+_, _-_, _*_, _<_, _≤_}
+use lib.Dec.{eqb, leb}
+use lib.ListN.{take, drop}
+use borrow.Author.Tests.{eq-eqb, ne-eqb, le-leb, lt-leb, not-true, not-false}
+use Rattle.pixels.specs.Framebuffer.{width, height}
+use Rattle.directory.specs.declared.Found.{Found}
+use Rattle.directory.specs.declared.Found.the-variants.{At, Nothing}
+use Rattle.directory.specs.Directory.{findOf}
+use Rattle.fonts.specs.declared.Check.{Check}
+use Rattle.fonts.specs.declared.Check.the-variants.{Good, Malformed}
+use Rattle.fonts.specs.Checks.{checkOf}
+use Rattle.fonts.specs.Fonts.{isFont, nominalWidth, heightOf}
+use Rattle.builtin_font.specs.Table.{table}
+use Rattle.state.specs.declared.State.{State}
+use Rattle.state.specs.declared.Text.{Text}
+use Rattle.rules.specs.World.{World, world, rows, quietly, refused}
+use Rattle.rules.specs.Fonts.{Opened, opened, shut, openedAt, openFont}
+use Rattle.rules.specs.Text.{withFont, atPoint, fontChosen, chooseFont, placeX, placeY, placeIn, setPlace, characterIn, character}
+use Rattle.outcome.specs.declared.Outcome.{Outcome}
+use Rattle.outcome.specs.Outcome.{putTextOf}
+use Rattle.outcome.specs.Contract.{Came, SetsOn, StoresOn, PaintsOn, ShowsOn}
+
+-- ---- the font of a number
+
+good-is : (t : Bool) → checkOf t ≡ Good → t ≡ true
+good-is true e = refl
+good-is false e = cc
+
+malformed-is : (t : Bool) → checkOf t ≡ Malformed → t ≡ false
+malformed-is true e = cc
+malformed-is false e = refl
+
+module _ (h : ℕ) (s : List ℕ) (n : ℕ) where
+  pub open-built-in : (l : List ℕ) → n ≡ 1 → l ≡ table → openFont h s n ≡ opened l
+  unfolding openFont
+  open-built-in l e d = rw (eq-eqb n 1 e, d)
+
+  module _ (f : Found) (other : n ≡ 1 → ⊥) (lookup : f ≡ findOf s 1 n) where
+    pub open-22 : f ≡ Nothing → openFont h s n ≡ shut 22
+    unfolding openFont openedAt
+    open-22 e = rw (ne-eqb n 1 other, ← lookup, e)
+
+    module _ (p a z : ℕ) (l : List ℕ) (c : Check) (there : f ≡ At p a z) (lent : l ≡ take z (drop a s)) (checked : c ≡ checkOf (isFont h l)) where
+      pub open-23 : c ≡ Malformed → openFont h s n ≡ shut 23
+      unfolding openFont openedAt
+      open-23 e = rw (ne-eqb n 1 other, ← lookup, there, ← lent, malformed-is (isFont h l) (sym checked ∙ e))
+
+      pub open-good : c ≡ Good → openFont h s n ≡ opened l
+      unfolding openFont openedAt
+      open-good e = rw (ne-eqb n 1 other, ← lookup, there, ← lent, good-is (isFont h l) (sym checked ∙ e))
+
+-- ---- choosing it
+
+module _ (g s : List ℕ) (st : State) (h n : ℕ) (tall : height g ≡ h) where
+  pub choose-shut : (r : ℕ) → openFont h s n ≡ shut r → chooseFont (world g s st) n ≡ refused r []
+  unfolding chooseFont fontChosen
+  choose-shut r e = rw (tall, e)
+
+  pub choose-opened : (l : List ℕ) → openFont h s n ≡ opened l → chooseFont (world g s st) n ≡ quietly (world g s (putTextOf st (withFont (st .port .text) n)))
+  unfolding chooseFont fontChosen
+  choose-opened l e = rw (tall, e)
+
+-- ---- the text point by column and row
+
+pub product-fits : (a b : ℕ) → a ≤ 254 → b ≤ 510 → a * b ≤ 129540
+product-fits a b h k = mul-le-mul h k
+
+pub pixel-is : (margin place size space m p z q n : ℕ) → z ≡ size → q ≡ space → m ≡ margin → p ≡ place → n ≡ (p - 1) * (z + q)
+    → m + n ≡ margin + (place - 1) * (size + space)
+pixel-is margin place size space m p z q n ez eq em ep en = rw (en, ez, eq, em, ep)
+
+module _ (g s : List ℕ) (st : State) (h c r : ℕ) (l : List ℕ) (tall : height g ≡ h) where
+  pub place-no-column : c ≡ 0 → placeIn (world g s st) c r (opened l) ≡ refused 17 []
+  unfolding placeIn
+  place-no-column e = rw (eq-eqb c 0 e)
+
+  pub place-no-row : (c ≡ 0 → ⊥) → r ≡ 0 → placeIn (world g s st) c r (opened l) ≡ refused 17 []
+  unfolding placeIn
+  place-no-row f e = rw (ne-eqb c 0 f, eq-eqb r 0 e)
+
+  module _ (x y v k : ℕ) (column : c ≡ 0 → ⊥) (row : r ≡ 0 → ⊥) (wide : v ≡ nominalWidth l) (high : k ≡ heightOf l)
+      (at-x : x ≡ st .port .text .left + (c - 1) * (v + st .port .text .«char_space»)) (at-y : y ≡ st .port .text .top + (r - 1) * (k + st .port .text .«line_space»)) where
+    x-is : x ≡ placeX (st .port .text) l c
+    x-is = at-x ∙ rw wide
+
+    y-is : y ≡ placeY (st .port .text) l r
+    y-is = at-y ∙ rw high
+
+    pub place-off-right : 240 ≤ x → placeIn (world g s st) c r (opened l) ≡ refused 17 []
+    unfolding placeIn
+    place-off-right b = rw (ne-eqb c 0 column, ne-eqb r 0 row, ← x-is, le-leb 240 x b)
+
+    pub place-off-below : x < 240 → h ≤ y → placeIn (world g s st) c r (opened l) ≡ refused 17 []
+    unfolding placeIn
+    place-off-below b d = rw (ne-eqb c 0 column, ne-eqb r 0 row, ← x-is, lt-leb 240 x b, tall, ← y-is, le-leb h y d)
+
+    pub place-done : x < 240 → y < h → placeIn (world g s st) c r (opened l) ≡ quietly (world g s (putTextOf st (atPoint (st .port .text) x y)))
+    unfolding placeIn
+    place-done b d = rw (ne-eqb c 0 column, ne-eqb r 0 row, ← x-is, lt-leb 240 x b, tall, ← y-is, lt-leb h y d)
+
+module _ (g s : List ℕ) (st : State) (h c r : ℕ) (tall : height g ≡ h) where
+  pub place-shut : (k : ℕ) → openFont h s (st .port .text .font) ≡ shut k → setPlace (world g s st) c r ≡ refused k []
+  unfolding setPlace placeIn
+  place-shut k e = rw (tall, e)
+
+  place-opened : (l : List ℕ) → openFont h s (st .port .text .font) ≡ opened l → setPlace (world g s st) c r ≡ placeIn (world g s st) c r (opened l)
+  unfolding setPlace
+  place-opened l e = rw (tall, e)
+
+pub placed : {h : ℕ} {st : State} {s : List ℕ} {o : Outcome} (c r : ℕ) (l : List ℕ) → SetsOn h (λ w. placeIn w c r (opened l)) st o
+    → openFont h s (st .port .text .font) ≡ opened l → StoresOn h (λ w. setPlace w c r) st s s o
+placed {h = h} {st = st} {s = s} c r l p e = record { came = λ g t. rw (place-opened g s st h c r t l e) (p .came g s t) }
+
+-- ---- characters
+
+module _ (g s : List ℕ) (st : State) (h c : ℕ) (tall : height g ≡ h) where
+  pub character-shut : (k : ℕ) → openFont h s (st .port .text .font) ≡ shut k → character (world g s st) c ≡ refused k []
+  unfolding character characterIn
+  character-shut k e = rw (tall, e)
+
+  character-opened : (l : List ℕ) → openFont h s (st .port .text .font) ≡ opened l → character (world g s st) c ≡ characterIn (world g s st) c (opened l)
+  unfolding character
+  character-opened l e = rw (tall, e)
+
+pub drawn : {h : ℕ} {st : State} {g g' s : List ℕ} {o : Outcome} (c : ℕ) (l : List ℕ) → PaintsOn h (λ w. characterIn w c (opened l)) st g g' o
+    → openFont h s (st .port .text .font) ≡ opened l → ShowsOn h (λ w. character w c) st g g' s o
+drawn {h = h} {st = st} {g = g} {s = s} c l p e = record { came = λ t. rw (character-opened g s st h c t l e) (p .came s t) }

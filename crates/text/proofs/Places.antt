@@ -1,0 +1,127 @@
+-- Where a character goes: the ways of its wrap and of its room, and the character drawn there.
+-- Assumes nothing.
+use mathlib.Core.Path.{_≡_, _∙_, refl, sym, ap}
+use mathlib.Core.Bool.{Bool, true, false, cond, not, _&&_}
+use mathlib.Core.List.{List, []}
+use native.Mathlib.Omega.{arith}
+use Prim.Native.Nat.{ℕ, _+_, _<_, _≤_}
+use lib.Dec.{eqb, leb}
+use lib.ListN.{drop}
+use borrow.Author.Tests.{eq-eqb, ne-eqb, le-leb, lt-leb, leb-true, not-true, not-false}
+use Rattle.file_laws.proofs.Written.{and-both}
+use Rattle.pixels.specs.Framebuffer.{width, height}
+use Rattle.bitmap.specs.Bitmaps.{packedBox}
+use Rattle.scroll.specs.Scroll.{scrolled}
+use Rattle.fonts.specs.declared.Glyph.{Glyph}
+use Rattle.fonts.specs.declared.Glyph.the-variants.{At as GlyphAt, Missing}
+use Rattle.fonts.specs.Fonts.{heightOf, glyphOf}
+use Rattle.state.specs.declared.State.{State}
+use Rattle.state.specs.declared.Text.{Text}
+use Rattle.rules.specs.World.{World, world, quietly, refused}
+use Rattle.rules.specs.Fonts.{opened}
+use Rattle.rules.specs.Text.{atPoint, Place as Ruled, place, nowhere, wrapped, roomFor, movedUp, glyphAt, glyphOn, characterIn}
+use Rattle.outcome.specs.Outcome.{putTextOf}
+use Rattle.text.specs.declared.Place.{Place}
+use Rattle.text.specs.declared.Place.the-variants.{At, Nowhere}
+use Rattle.text.specs.Places.{placeOf}
+
+-- ---- the wrap
+
+module _ (t : Text) (v f x y u : ℕ) where
+  pub wrap-here : x ≡ t .x → y ≡ t .y → u ≡ 0 → t .x + v ≤ 240 → At x y u ≡ placeOf (wrapped t v f)
+  unfolding wrapped placeOf
+  wrap-here ex ey eu a = rw (le-leb (t .x + v) 240 a, ex, ey, eu)
+
+  module _ (far : 240 < t .x + v) where
+    pub wrap-nowhere : not (t .wrap) ≡ true → Nowhere ≡ placeOf (wrapped t v f)
+    unfolding wrapped placeOf
+    wrap-nowhere a = rw (lt-leb (t .x + v) 240 far, a)
+
+    module _ (on : not (t .wrap) ≡ false) (ex : x ≡ t .left) where
+      pub wrap-below : y ≡ t .y + f + t .«line_space» → u ≡ 0 → t .y + f + t .«line_space» + f ≤ t .«scroll_row» → At x y u ≡ placeOf (wrapped t v f)
+      unfolding wrapped placeOf
+      wrap-below ey eu a = rw (lt-leb (t .x + v) 240 far, on, le-leb (t .y + f + t .«line_space» + f) (t .«scroll_row») a, ex, ey, eu)
+
+      module _ (low : t .«scroll_row» < t .y + f + t .«line_space» + f) where
+        pub wrap-up : y ≡ t .y → u ≡ f + t .«line_space» → t .scroll ≡ true → At x y u ≡ placeOf (wrapped t v f)
+        unfolding wrapped placeOf
+        wrap-up ey eu b = rw (lt-leb (t .x + v) 240 far, on, lt-leb (t .y + f + t .«line_space» + f) (t .«scroll_row») low, b, ex, ey, eu)
+
+        pub wrap-top : y ≡ t .top → u ≡ 0 → t .scroll ≡ false → At x y u ≡ placeOf (wrapped t v f)
+        unfolding wrapped placeOf
+        wrap-top ey eu b = rw (lt-leb (t .x + v) 240 far, on, lt-leb (t .y + f + t .«line_space» + f) (t .«scroll_row») low, b, ex, ey, eu)
+
+-- ---- the room
+
+at-is : (p : Ruled) (x y u : ℕ) → placeOf p ≡ At x y u → p ≡ place x y u
+unfolding placeOf
+at-is (place a b c) x y u e = cc
+at-is nowhere x y u e = cc
+
+nowhere-is : (p : Ruled) → placeOf p ≡ Nowhere → p ≡ nowhere
+unfolding placeOf
+nowhere-is (place a b c) e = cc
+nowhere-is nowhere e = refl
+
+module _ (h v f : ℕ) (p : Ruled) (c : Place) (found : c ≡ placeOf p) where
+  pub room-nowhere : c ≡ Nowhere → Nowhere ≡ placeOf (roomFor h v f p)
+  unfolding roomFor placeOf
+  room-nowhere e = rw (nowhere-is p (sym found ∙ e))
+
+  module _ (x y u : ℕ) (here : c ≡ At x y u) where
+    pub room-right : 240 < x + v → Nowhere ≡ placeOf (roomFor h v f p)
+    unfolding roomFor placeOf
+    room-right a = rw (at-is p x y u (sym found ∙ here), lt-leb (x + v) 240 a)
+
+    pub room-below : x + v ≤ 240 → h < y + f → Nowhere ≡ placeOf (roomFor h v f p)
+    unfolding roomFor placeOf
+    room-below a b = rw (at-is p x y u (sym found ∙ here), le-leb (x + v) 240 a, lt-leb (y + f) h b)
+
+    pub room-here : x + v ≤ 240 → y + f ≤ h → At x y u ≡ placeOf (roomFor h v f p)
+    unfolding roomFor placeOf
+    room-here a b = rw (at-is p x y u (sym found ∙ here), le-leb (x + v) 240 a, le-leb (y + f) h b)
+
+-- what a place with room gives
+pub record Fits (h v f x y : ℕ) : Type 0 where
+  pub right : x + v ≤ 240
+  pub below : y + f ≤ h
+
+fits-by : (h v f a b u x y k : ℕ) (t : Bool) → (leb (a + v) width && leb (b + f) h) ≡ t → cond t (place a b u) nowhere ≡ place x y k → Fits h v f x y
+fits-by h v f a b u x y k true e d =
+    let q = and-both (leb (a + v) width) (leb (b + f) h) e in
+    let ex : a ≡ x = cc in
+    let ey : b ≡ y = cc in
+    record { right = omega (arith, ex, leb-true (a + v) width (q .0)); below = omega (arith, ey, leb-true (b + f) h (q .1)) }
+fits-by h v f a b u x y k false e d = let z : _≡_ {A = ℕ} 0 1 = cc in absurd (omega arith)
+
+room-fits : (h v f : ℕ) (p : Ruled) (x y u : ℕ) → roomFor h v f p ≡ place x y u → Fits h v f x y
+unfolding roomFor
+room-fits h v f (place a b c) x y u e = fits-by h v f a b c x y u (leb (a + v) width && leb (b + f) h) refl e
+room-fits h v f nowhere x y u e = let z : _≡_ {A = ℕ} 0 1 = cc in absurd (omega arith)
+
+pub fits : (h v f : ℕ) (p : Ruled) (c : Place) (x y u : ℕ) → c ≡ placeOf (roomFor h v f p) → c ≡ At x y u → Fits h v f x y
+fits h v f p c x y u e d = room-fits h v f p x y u (at-is (roomFor h v f p) x y u (sym e ∙ d))
+
+-- ---- the character
+
+pub up-some : (n : ℕ) (g g' : List ℕ) → 0 < n → g' ≡ scrolled n g → g' ≡ movedUp n g
+up-some n g g' a e = e ∙ rw (ne-eqb n 0 (λ z. absurd (omega arith)))
+
+pub up-none : (n : ℕ) (g : List ℕ) → n ≤ 0 → g ≡ movedUp n g
+up-none n g a = rw (eq-eqb n 0 (omega arith))
+
+module _ (g s : List ℕ) (st : State) (h b : ℕ) (l : List ℕ) (q : Glyph) (tall : height g ≡ h) (glyph : q ≡ glyphOf l b) where
+  pub draw-28 : q ≡ Missing → characterIn (world g s st) b (opened l) ≡ refused 28 []
+  unfolding characterIn glyphOn
+  draw-28 e = rw (← glyph, e)
+
+  module _ (o v f : ℕ) (c : Place) (there : q ≡ GlyphAt o v) (high : f ≡ heightOf l) (found : c ≡ placeOf (roomFor h v f (wrapped (st .port .text) v f))) where
+    pub draw-29 : c ≡ Nowhere → characterIn (world g s st) b (opened l) ≡ refused 29 []
+    unfolding characterIn glyphOn glyphAt
+    draw-29 e = rw (← glyph, there, tall, ← high, nowhere-is (roomFor h v f (wrapped (st .port .text) v f)) (sym found ∙ e))
+
+    pub draw-done : (x y u a d : ℕ) (g' g'' bits : List ℕ) → a ≡ v → d ≡ st .port .text .«char_space» → c ≡ At x y u → g' ≡ movedUp u g → bits ≡ drop o l → g'' ≡ packedBox x y v f bits g'
+        → characterIn (world g s st) b (opened l) ≡ quietly (world g'' s (putTextOf st (atPoint (st .port .text) (x + a + d) y)))
+    unfolding characterIn glyphOn glyphAt
+    draw-done x y u a d g' g'' bits ea ed e up cut paint =
+        rw (← glyph, there, tall, ← high, at-is (roomFor h v f (wrapped (st .port .text) v f)) x y u (sym found ∙ e), paint, up, cut, high, ea, ed)
