@@ -79,7 +79,15 @@ pub fn is_ordered(x1: u8, y1: u8, x2: u8, y2: u8) -> bool
     y1 <= y2
 }
 
-pub fn draw_frame(screen: &mut [u8], state: State, colour: u8, x1: u8, y1: u8, x2: u8, y2: u8) -> Outcome
+pub fn draw_frame(
+    screen: &mut [u8],
+    state: State,
+    colour: u8,
+    x1: u8,
+    y1: u8,
+    x2: u8,
+    y2: u8,
+) -> Outcome
     ensures { λ r. ⌜ Paints (λ w. drawFrame w colour x1 y1 x2 y2) state (now (screen .entry)) (now (screen .exit)) r ⌝ }
 {
     if !is_ordered(x1, y1, x2, y2) {
@@ -89,7 +97,15 @@ pub fn draw_frame(screen: &mut [u8], state: State, colour: u8, x1: u8, y1: u8, x
     done(state)
 }
 
-pub fn fill_rectangle(screen: &mut [u8], state: State, colour: u8, x1: u8, y1: u8, x2: u8, y2: u8) -> Outcome
+pub fn fill_rectangle(
+    screen: &mut [u8],
+    state: State,
+    colour: u8,
+    x1: u8,
+    y1: u8,
+    x2: u8,
+    y2: u8,
+) -> Outcome
     ensures { λ r. ⌜ Paints (λ w. fillRectangle w colour x1 y1 x2 y2) state (now (screen .entry)) (now (screen .exit)) r ⌝ }
 {
     if !is_ordered(x1, y1, x2, y2) {

@@ -1,4 +1,5 @@
 // Commands of bar graphs and strip charts.
+use bar_graph::Bar;
 use canvas::WIDTH;
 use outcome::CORNERS;
 use outcome::NOT_SET_UP;
@@ -9,7 +10,6 @@ use outcome::UNKNOWN_TYPE;
 use outcome::done;
 use outcome::refused;
 use outcome::with_panel;
-use bar_graph::Bar;
 use state::BARS;
 use state::BarSlot;
 use state::STRIPS;
@@ -65,10 +65,7 @@ fn with_bar(state: State, i: usize, bar: Bar) -> State
     requires { ⌜ i < 16 ⌝ }
     ensures { λ r. ⌜ r ≡ withBarOf state i bar ⌝ }
 {
-    let slot = BarSlot {
-        on: true,
-        bar: bar,
-    };
+    let slot = BarSlot { on: true, bar: bar };
     let mut panel = state.panel;
     panel.bars[i] = slot;
     with_panel(state, panel)
@@ -84,7 +81,16 @@ fn with_strip(state: State, i: usize, strip: Strip) -> State
 }
 
 // The value is 0, and nothing is painted.
-pub fn set_up_bar(state: State, height: u8, number: u8, kind: u8, x1: u8, y1: u8, x2: u8, y2: u8) -> Outcome
+pub fn set_up_bar(
+    state: State,
+    height: u8,
+    number: u8,
+    kind: u8,
+    x1: u8,
+    y1: u8,
+    x2: u8,
+    y2: u8,
+) -> Outcome
     ensures { λ r. ⌜ SetsOn height (λ w. setUpBar w number kind x1 y1 x2 y2) state r ⌝ }
 {
     let i = wide(number);
@@ -164,6 +170,13 @@ pub fn shift_strip(screen: &mut [u8], state: State, byte: u8) -> Outcome
     if !strip.on {
         return refused(state, NOT_SET_UP);
     }
-    strip_chart::shift_strip(screen, strip.x1, strip.y1, strip.x2, strip.y2, byte >= RIGHT);
+    strip_chart::shift_strip(
+        screen,
+        strip.x1,
+        strip.y1,
+        strip.x2,
+        strip.y2,
+        byte >= RIGHT,
+    );
     done(state)
 }

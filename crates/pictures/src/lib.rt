@@ -37,11 +37,25 @@ fn show_file(screen: &mut [u8], state: State, file: &[u8], x: u8, y: u8) -> Outc
         return refused(state, MALFORMED);
     };
     let bits = rest(file, BITMAP_HEADER);
-    paint_packed(screen, x as u16, y, bitmap_width(file), bitmap_height(file), bits);
+    paint_packed(
+        screen,
+        x as u16,
+        y,
+        bitmap_width(file),
+        bitmap_height(file),
+        bits,
+    );
     done(state)
 }
 
-pub fn show_bitmap(screen: &mut [u8], store: &[u8], state: State, number: u8, x: u8, y: u8) -> Outcome
+pub fn show_bitmap(
+    screen: &mut [u8],
+    store: &[u8],
+    state: State,
+    number: u8,
+    x: u8,
+    y: u8,
+) -> Outcome
     ensures { λ r. ⌜ Shows (λ w. showBitmap w number x y) state (now (screen .entry)) (now (screen .exit)) (now (store .entry)) r ⌝ }
 {
     let found = find(store, BITMAP, number);
@@ -63,30 +77,45 @@ pub fn begin_inline(state: State, x1: u8, y1: u8, x2: u8, y2: u8) -> Outcome
     if !is_ordered(x1, y1, x2, y2) {
         return refused(state, CORNERS);
     }
-    done(in_phase(state, Phase::Inline {
-        x1: x1,
-        y1: y1,
-        x2: x2,
-        y2: y2,
-        done: 0,
-    }))
+    done(in_phase(
+        state,
+        Phase::Inline {
+            x1: x1,
+            y1: y1,
+            x2: x2,
+            y2: y2,
+            done: 0,
+        },
+    ))
 }
 
 // Byte number `came` of the data, painted as it comes.
-pub fn inline_data(screen: &mut [u8], state: State, x1: u8, y1: u8, x2: u8, y2: u8, came: u16, byte: u8) -> Outcome
+pub fn inline_data(
+    screen: &mut [u8],
+    state: State,
+    x1: u8,
+    y1: u8,
+    x2: u8,
+    y2: u8,
+    came: u16,
+    byte: u8,
+) -> Outcome
     requires { ⌜ soundInline x1 y1 x2 y2 came ≡ true ⌝ }
     ensures { λ r. ⌜ Paints (λ w. inlineData w x1 y1 x2 y2 came byte) state (now (screen .entry)) (now (screen .exit)) r ⌝ }
 {
     paint_inline(screen, x1, y1, x2, y2, came, byte);
     let all = inline_bytes(x1, y1, x2, y2);
     if came + 1 < all {
-        return done(in_phase(state, Phase::Inline {
-            x1: x1,
-            y1: y1,
-            x2: x2,
-            y2: y2,
-            done: came + 1,
-        }));
+        return done(in_phase(
+            state,
+            Phase::Inline {
+                x1: x1,
+                y1: y1,
+                x2: x2,
+                y2: y2,
+                done: came + 1,
+            },
+        ));
     }
     done(in_phase(state, Phase::Idle))
 }

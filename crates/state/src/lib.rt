@@ -1,15 +1,15 @@
 // What the display remembers between bytes, by value: what belongs to one serial line (Port) and what belongs to the display (Panel).
-mod sound;
 mod initial;
+mod sound;
 
 use bar_graph::Bar;
-use queue::Flow;
-use sound::both;
-use sound::is_panel_sound;
-use sound::is_port_sound;
-pub use sound::inline_bytes;
 pub use initial::start_state;
 pub use initial::start_text;
+use queue::Flow;
+use sound::both;
+pub use sound::inline_bytes;
+use sound::is_panel_sound;
+use sound::is_port_sound;
 ghost use mathlib.Core.Path.{_≡_};
 ghost use Rattle.state.specs.Commands.{commandOf, argumentsOf};
 ghost use Rattle.state.specs.Soundness.{soundState};

@@ -131,7 +131,17 @@ pub fn begin_upload(store: &[u8], state: State, kind: u8, number: u8, size: u16)
 }
 
 // A data byte is echoed and waits; confirmed, it is stored at the next free byte, and at the last one the record is written.
-pub fn upload_data(store: &mut [u8], state: State, kind: u8, number: u8, size: u16, stored: u16, waiting: bool, held: u8, byte: u8) -> Outcome
+pub fn upload_data(
+    store: &mut [u8],
+    state: State,
+    kind: u8,
+    number: u8,
+    size: u16,
+    stored: u16,
+    waiting: bool,
+    held: u8,
+    byte: u8,
+) -> Outcome
     requires { ⌜ stored < size ⌝ }
     ensures { λ r. ⌜ Stores (λ w. uploadData w kind number size stored waiting held byte) state (now (store .entry)) (now (store .exit)) r ⌝ }
 {

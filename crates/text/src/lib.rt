@@ -100,7 +100,14 @@ pub fn set_scroll(state: State, on: bool) -> Outcome
     done(put_text(state, text))
 }
 
-pub fn set_metrics(state: State, left: u8, top: u8, char_space: u8, line_space: u8, scroll_row: u8) -> Outcome
+pub fn set_metrics(
+    state: State,
+    left: u8,
+    top: u8,
+    char_space: u8,
+    line_space: u8,
+    scroll_row: u8,
+) -> Outcome
     ensures { λ r. ⌜ Sets (λ w. quietly (putText w (withMetrics (port w .text) (left ∷ top ∷ «char_space» ∷ «line_space» ∷ «scroll_row» ∷ [])))) state r ⌝ }
 {
     let mut text = state.port.text;
@@ -248,11 +255,7 @@ fn place_for(text: Text, width: u8, tall: u8, height: u8) -> Place
     if wide(y) + long(tall) > long(height) {
         return Place::Nowhere;
     }
-    Place::At {
-        x: x,
-        y: y,
-        up: up,
-    }
+    Place::At { x: x, y: y, up: up }
 }
 
 fn move_up(screen: &mut [u8], rows: u16)
@@ -286,7 +289,13 @@ fn draw_in(screen: &mut [u8], state: State, height: u8, file: &[u8], byte: u8) -
 }
 
 // Any byte but 254 outside a command.
-pub fn draw_character(screen: &mut [u8], store: &[u8], state: State, height: u8, byte: u8) -> Outcome
+pub fn draw_character(
+    screen: &mut [u8],
+    store: &[u8],
+    state: State,
+    height: u8,
+    byte: u8,
+) -> Outcome
     ensures { λ r. ⌜ ShowsOn height (λ w. character w byte) state (now (screen .entry)) (now (screen .exit)) (now (store .entry)) r ⌝ }
 {
     let font = state.port.text.font;

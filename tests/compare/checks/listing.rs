@@ -39,8 +39,11 @@ fn difference(expected: &str, got: &str) -> Option<String> {
         match (a.next(), b.next()) {
             (x, y) if x == y && x.is_some() => number += 1,
             (x, y) => {
-                let cut = |line: Option<&str>| line.map(|line| line.chars().take(300).collect::<String>());
-                return Some(format!("line {number}: expected {:?}, the program {:?}", cut(x), cut(y)));
+                let (x, y) = (x.unwrap_or("no line"), y.unwrap_or("no line"));
+                // a line of replies is long: what stands just before the difference is enough
+                let alike = x.bytes().zip(y.bytes()).take_while(|(a, b)| a == b).count();
+                let part = |line: &str| line.chars().skip(alike.saturating_sub(30)).take(90).collect::<String>();
+                return Some(format!("line {number}: expected ..{:?}, the program ..{:?}", part(x), part(y)));
             }
         }
     }

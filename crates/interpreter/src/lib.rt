@@ -1,0 +1,236 @@
+// One byte: what it comes to in each phase, and every command obeyed.
+use directory::BITMAP;
+use directory::FONT;
+use outcome::NO_FILE;
+use outcome::Outcome;
+use outcome::UNKNOWN_CODE;
+use outcome::done;
+use outcome::in_phase;
+use outcome::refused;
+use outcome::with_port;
+use state::ARGUMENTS;
+use state::Command;
+use state::Phase;
+use state::Port;
+use state::State;
+use state::arguments_of;
+use state::command_of;
+use storage::is_stored;
+ghost use mathlib.Core.Path.{_≡_};
+ghost use mathlib.Core.Bool.{true};
+ghost use Prim.Native.Nat.{_+_, _*_, _<_};
+ghost use lib.ListN.{set};
+ghost use Rattle.state.specs.Soundness.{soundPhase, soundGathering};
+ghost use Rattle.rules.specs.World.{world};
+ghost use Rattle.rules.specs.Step.{obey, code, argument, alone, outcome};
+ghost use Rattle.outcome.specs.Outcome.{sentBy};
+ghost use Rattle.outcome.specs.Contract.{Came};
+ghost use Rattle.interpreter.specs.Gathering.{Tall, gatheringOf, noBitmapOf};
+
+// The byte that begins a command.
+const PREFIX: u8 = 254;
+
+// A saved bitmap's code: its number alone can end it.
+const SHOW_BITMAP: u8 = 98;
+
+// A size of two bytes.
+fn size_of(low: u8, high: u8) -> u16
+    ensures { λ r. ⌜ r ≡ low + 256 * high ⌝ }
+{
+    low as u16 + 256 * (high as u16)
+}
+
+// A command with its fixed arguments.
+fn obey(
+    command: Command,
+    a: [u8; ARGUMENTS],
+    screen: &mut [u8],
+    store: &mut [u8],
+    state: State,
+    height: u8,
+) -> Outcome
+    requires { ⌜ Tall (now screen) height ⌝ }
+    ensures { λ r. ⌜ Came (world (now (screen .entry)) (now (store .entry)) state) (obey command a (world (now (screen .entry)) (now (store .entry)) state)) (world (now (screen .exit)) (now (store .exit)) (r .state)) (sentBy (r .reply)) ⌝ }
+{
+    match command {
+        Command::Unknown => refused(state, UNKNOWN_CODE),
+        Command::Clear => drawing::clear(screen, state),
+        Command::Home => text::home(state),
+        Command::SetPoint => text::set_point(state, a[0], a[1]),
+        Command::SetPlace => text::set_place(store, state, height, a[0], a[1]),
+        Command::WrapOn => text::set_wrap(state, true),
+        Command::WrapOff => text::set_wrap(state, false),
+        Command::ScrollOn => text::set_scroll(state, true),
+        Command::ScrollOff => text::set_scroll(state, false),
+        Command::ChooseFont => text::choose_font(store, state, height, a[0]),
+        Command::SetMetrics => text::set_metrics(state, a[0], a[1], a[2], a[3], a[4]),
+        Command::SetColour => drawing::set_colour(state, a[0]),
+        Command::DrawPixel => drawing::draw_pixel(screen, state, a[0], a[1]),
+        Command::DrawLine => drawing::draw_line(screen, state, a[0], a[1], a[2], a[3]),
+        Command::ContinueLine => {
+            let from = state.port.drawing;
+            drawing::draw_line(screen, state, from.x, from.y, a[0], a[1])
+        }
+        Command::DrawFrame => drawing::draw_frame(screen, state, a[0], a[1], a[2], a[3], a[4]),
+        Command::FillRectangle => {
+            drawing::fill_rectangle(screen, state, a[0], a[1], a[2], a[3], a[4])
+        }
+        Command::SetUpBar => {
+            graphs::set_up_bar(state, height, a[0], a[1], a[2], a[3], a[4], a[5])
+        }
+        Command::WriteBar => graphs::write_bar(screen, state, a[0], a[1]),
+        Command::SetUpStrip => graphs::set_up_strip(state, height, a[0], a[1], a[2], a[3], a[4]),
+        Command::ShiftStrip => graphs::shift_strip(screen, state, a[0]),
+        Command::ShowBitmap => pictures::show_bitmap(screen, store, state, a[0], a[1], a[2]),
+        Command::DrawInline => pictures::begin_inline(state, a[0], a[1], a[2], a[3]),
+        Command::UploadFont => {
+            storage::begin_upload(store, state, FONT, a[0], size_of(a[1], a[2]))
+        }
+        Command::UploadBitmap => {
+            storage::begin_upload(store, state, BITMAP, a[0], size_of(a[1], a[2]))
+        }
+        Command::DeleteFile => storage::delete_file(store, state, a[0], a[1]),
+        Command::Purge => storage::purge(store, state, height, a[0], a[1]),
+        Command::FlowOn => settings::flow_on(state, a[0], a[1]),
+        Command::FlowOff => settings::flow_off(state),
+        Command::SetContrast => settings::set_contrast(state, a[0]),
+        Command::BacklightOn => settings::backlight_on(state, a[0]),
+        Command::BacklightOff => settings::backlight_off(state),
+        Command::SetSerial => settings::set_serial(state, a[0], a[1]),
+    }
+}
+
+// A command's code: without arguments it is obeyed, else they are gathered.
+fn take_code(screen: &mut [u8], store: &mut [u8], state: State, height: u8, byte: u8) -> Outcome
+    requires { ⌜ Tall (now screen) height ⌝ }
+    ensures { λ r. ⌜ Came (world (now (screen .entry)) (now (store .entry)) state) (code (world (now (screen .entry)) (now (store .entry)) state) byte) (world (now (screen .exit)) (now (store .exit)) (r .state)) (sentBy (r .reply)) ⌝ }
+{
+    let command = command_of(byte);
+    if arguments_of(command) == 0 {
+        let outside = in_phase(state, Phase::Idle);
+        return obey(command, [0; ARGUMENTS], screen, store, outside, height);
+    }
+    done(in_phase(state, Phase::Gathering { code: byte, got: 0 }))
+}
+
+// Whether it is a saved bitmap's number that the directory does not have.
+fn is_no_bitmap(store: &[u8], code: u8, got: u8, byte: u8) -> bool
+    ensures { λ r. ⌜ r ≡ noBitmapOf (now (store .entry)) code got byte ⌝ }
+{
+    if code != SHOW_BITMAP {
+        return false;
+    }
+    if got != 0 {
+        return false;
+    }
+    !is_stored(store, BITMAP, byte)
+}
+
+// The arguments with one more.
+fn gathered(state: State, got: u8, byte: u8) -> [u8; ARGUMENTS]
+    requires { ⌜ got < 6 ⌝ }
+    ensures { λ r. ⌜ r ≡ set (state .port .args) got byte ⌝ }
+{
+    let mut args = state.port.args;
+    let i = got as usize;
+    args[i] = byte;
+    args
+}
+
+fn gathering(state: State, code: u8, got: u8, args: [u8; ARGUMENTS]) -> State
+    ensures { λ r. ⌜ r ≡ gatheringOf state code got args ⌝ }
+{
+    let text = state.port.text;
+    let drawing = state.port.drawing;
+    let flow = state.port.flow;
+    let refusals = state.port.refusals;
+    let port = Port {
+        phase: Phase::Gathering {
+            code: code,
+            got: got,
+        },
+        args: args,
+        text: text,
+        drawing: drawing,
+        flow: flow,
+        refusals: refusals,
+    };
+    with_port(state, port)
+}
+
+// An argument: the last one has its command obeyed.
+fn take_argument(
+    screen: &mut [u8],
+    store: &mut [u8],
+    state: State,
+    height: u8,
+    code: u8,
+    got: u8,
+    byte: u8,
+) -> Outcome
+    requires { ⌜ (Tall (now screen) height) × (soundGathering code got ≡ true) ⌝ }
+    ensures { λ r. ⌜ Came (world (now (screen .entry)) (now (store .entry)) state) (argument (world (now (screen .entry)) (now (store .entry)) state) code got byte) (world (now (screen .exit)) (now (store .exit)) (r .state)) (sentBy (r .reply)) ⌝ }
+{
+    if is_no_bitmap(store, code, got, byte) {
+        return refused(state, NO_FILE);
+    }
+    let command = command_of(code);
+    let args = gathered(state, got, byte);
+    if got + 1 < arguments_of(command) {
+        return done(gathering(state, code, got + 1, args));
+    }
+    let outside = in_phase(state, Phase::Idle);
+    obey(command, args, screen, store, outside, height)
+}
+
+// Outside a command 254 begins one, and any other byte is a character.
+fn take_alone(screen: &mut [u8], store: &[u8], state: State, height: u8, byte: u8) -> Outcome
+    requires { ⌜ Tall (now screen) height ⌝ }
+    ensures { λ r. ⌜ Came (world (now (screen .entry)) (now (store .entry)) state) (alone (world (now (screen .entry)) (now (store .entry)) state) byte) (world (now (screen .exit)) (now (store .entry)) (r .state)) (sentBy (r .reply)) ⌝ }
+{
+    if byte == PREFIX {
+        return done(in_phase(state, Phase::Prefix));
+    }
+    text::draw_character(screen, store, state, height, byte)
+}
+
+// A byte of the stream.
+pub fn step(screen: &mut [u8], store: &mut [u8], state: State, height: u8, byte: u8) -> Outcome
+    requires { ⌜ (Tall (now screen) height) × (soundPhase (state .port .phase) ≡ true) ⌝ }
+    ensures { λ r. ⌜ Came (world (now (screen .entry)) (now (store .entry)) state) (outcome (world (now (screen .entry)) (now (store .entry)) state) byte) (world (now (screen .exit)) (now (store .exit)) (r .state)) (sentBy (r .reply)) ⌝ }
+{
+    let port = state.port;
+    let phase = port.phase;
+    match phase {
+        Phase::Idle => take_alone(screen, store, state, height, byte),
+        Phase::Prefix => take_code(screen, store, state, height, byte),
+        Phase::Gathering { code, got } => {
+            take_argument(screen, store, state, height, code, got, byte)
+        }
+        Phase::Inline {
+            x1,
+            y1,
+            x2,
+            y2,
+            done,
+        } => pictures::inline_data(screen, state, x1, y1, x2, y2, done, byte),
+        Phase::Upload {
+            kind,
+            number,
+            size,
+            stored,
+            waiting,
+            byte: held,
+        } => storage::upload_data(
+            store,
+            state,
+            kind,
+            number,
+            size,
+            stored,
+            waiting,
+            held,
+            byte,
+        ),
+    }
+}
