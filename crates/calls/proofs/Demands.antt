@@ -38,7 +38,7 @@ use Rattle.rules.proofs.ByByte.{demand-3}
 use Rattle.rules.proofs.Replies.{said-fits}
 use Rattle.rules.proofs.Counts.{refusal-count, last-refusal}
 use Rattle.rules.proofs.GoodByte.{good-step, good-start, screen-length, store-length}
-use Rattle.calls.specs.Memory.{screenBytes, Memory, storeFits, uploadRefused, checked, loaded, saved}
+use Rattle.calls.specs.Memory.{screenBytes, Memory, storeFits, uploadRefused, checked, loaded, saved, Kept}
 use Rattle.calls.specs.Feed.{Fed, fed, feedOf}
 use Rattle.calls.specs.Line.{bothSound}
 use Rattle.calls.specs.Start.{startChecked, startOf}
@@ -48,12 +48,7 @@ use Rattle.calls.proofs.Lists.{BytesInAll, both-true, streamed, consume
 
 -- ---- worlds that every check passes
 
-pub record Kept (w : World) : Type 0 where
-  pub good : Good w
-  pub screen : length (w .screen) ≡ 1920
-  pub store : storeFits (w .store) ≡ true
-
-kept-step : (w : World) (b : ℕ) → Kept w → b < 256 → Kept (step w b)
+pub kept-step : (w : World) (b : ℕ) → Kept w → b < 256 → Kept (step w b)
 kept-step w b k h =
     record {
       good = good-step w b (k .good) h;
@@ -61,7 +56,7 @@ kept-step w b k h =
       store = rw (store-length w b (k .good) h) (k .store);
     }
 
-state-fits : (w : World) → Good w → Fits (w .state)
+pub state-fits : (w : World) → Good w → Fits (w .state)
 state-fits w g = fits (w .state) (g .port-fits) (g .panel-fits)
 
 back : (w : World) → Kept w → decodeOf (encodeOf (w .state)) ≡ w .state

@@ -1,7 +1,8 @@
 -- The memory that a call is lent, and the checks that it makes first, in their order.
 -- Assumes nothing.
+use mathlib.Core.Path.{_≡_}
 use mathlib.Core.List.{List}
-use mathlib.Core.Bool.{Bool, false, cond, not, _&&_, _||_}
+use mathlib.Core.Bool.{Bool, true, false, cond, not, _&&_, _||_}
 use Prim.Native.Nat.{ℕ}
 use lib.Dec.{eqb, leb}
 use lib.ListN.{length}
@@ -13,6 +14,7 @@ use Rattle.record.specs.Writing.{encodeOf}
 use Rattle.record.specs.Record.{soundRecord}
 use Rattle.rules.specs.World.{World, world}
 use Rattle.rules.specs.Files.{inUse, noRoom}
+use Rattle.rules.specs.Sound.{Good}
 
 -- the screen's rows, and its bytes
 abbrev pub screenRows : ℕ
@@ -55,3 +57,9 @@ loaded m = world (m .screen) (m .store) (decodeOf (m .state))
 
 abbrev pub saved : World → Memory
 saved w = memory (w .screen) (w .store) (encodeOf (w .state))
+
+-- A WORLD THAT EVERY CHECK PASSES
+pub record Kept (w : World) : Type 0 where
+  pub good : Good w
+  pub screen : length (w .screen) ≡ screenBytes
+  pub store : storeFits (w .store) ≡ true

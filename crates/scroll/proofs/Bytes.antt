@@ -7,8 +7,8 @@ use Prim.Native.Nat.{ℕ, _+_, _-_, _*_, _/_, _%_, _<_, _≤_}
 use native.Mathlib.Omega.{arith}
 use native.Mathlib.Decide.{decLt, ℕ-discrete}
 use lib.Dec.{ltb}
-use lib.ListN.{length, getD, set, length-set, List·getD-eq-default}
-use lib.Seq.{getD-set-same, getD-set-other}
+use lib.ListN.{length, getD, set, replicate, length-set, length-replicate, getD-replicate, List·getD-eq-default}
+use lib.Seq.{getD-set-same, getD-set-other, ext-getD}
 use borrow.Author.Tests.{lt-ltb, le-ltb}
 use borrow.Rule.Slice.PartMut.{putMid, midOf, same-len-mid, mid-len}
 use Rattle.pixels.specs.Framebuffer.{digit, bitOf, byteOf, pixel, picture, repaint, fill, plain, cell}
@@ -58,6 +58,12 @@ cleared-byte g j =
       | yes h ↦ getD-picture (λ x y. false) (length g) j h
       | no h ↦ List·getD-eq-default (picture (λ x y. false) (length g)) 0 {n = j} (rw (length-picture (λ x y. false) (length g)) (omega arith))
     ]
+
+pub cleared-zeros : (g : List ℕ) (n : ℕ) → length g ≡ n → fill everywhere false g ≡ replicate n 0
+unfolding repaint
+cleared-zeros g n e =
+    ext-getD 0 (fill everywhere false g) (replicate n 0) (length-picture (λ x y. false) (length g) ∙ e ∙ sym (length-replicate {A = ℕ} n 0))
+    (λ i h. cleared-byte g i ∙ sym (getD-replicate {A = ℕ} n i 0 0 (rw (length-picture (λ x y. false) (length g), e) at h)))
 
 -- ---- move_up
 

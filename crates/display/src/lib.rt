@@ -1,0 +1,279 @@
+// The four calls of a board: start, feed, arrive, take. Any bytes, of any length, may be lent to them.
+use canvas::LENGTH;
+use directory::is_valid;
+use interpreter::step;
+use outcome::Reply;
+use queue::HELD;
+use queue::LOST;
+use queue::LOST_HIGH;
+use queue::MARK;
+use queue::PLACE;
+use state::Phase;
+use state::State;
+use state::start_state;
+use storage::is_turned_away;
+ghost use mathlib.Core.Path.{_≡_};
+ghost use mathlib.Core.Bool.{_||_, _&&_};
+ghost use Prim.Native.Nat.{_+_, _≤_};
+ghost use lib.ListN.{length};
+ghost use lib.Seq.{sets};
+ghost use Rattle.rules.specs.World.{world};
+ghost use Rattle.outcome.specs.Outcome.{sentBy};
+ghost use Rattle.calls.specs.Memory.{memory, storeFits, uploadRefused, Kept};
+ghost use Rattle.calls.specs.Start.{started, startOf, emptied};
+ghost use Rattle.calls.specs.Line.{served, arriveCall, takeCall};
+ghost use Rattle.display.specs.Exports.{called, feedCall};
+ghost use Rattle.display.specs.Running.{Ran};
+
+// Answers; those of the queue are its own.
+pub const DONE: u32 = 0;
+
+pub const BAD_GLASS: u32 = 1;
+
+pub const BAD_STORE: u32 = 2;
+
+pub const BAD_RECORD: u32 = 3;
+
+pub const BAD_DIRECTORY: u32 = 4;
+
+pub const NO_REPLY_ROOM: u32 = 5;
+
+// The glass's rows.
+pub const ROWS: u8 = 64;
+
+// The store's bytes, at least and at most.
+pub const STORE_LEAST: usize = 1024;
+
+pub const STORE_MOST: usize = 32768;
+
+// Free reply bytes that a byte needs.
+pub const REPLY_ROOM: usize = 2;
+
+struct Progress {
+    state: State,
+    answer: u32,
+    consumed: usize,
+    replied: usize,
+}
+
+// Writes a reply from number `at` on; the answer is the number behind it.
+fn send(replies: &mut [u8], at: usize, reply: Reply) -> usize
+    requires { ⌜ at + 2 ≤ length (now replies) ⌝ }
+    ensures { λ r. ⌜ (r ≡ at + length (sentBy reply)) × (now (replies .exit) ≡ sets (now (replies .entry)) at (sentBy reply)) ⌝ }
+{
+    if reply.count == 0 {
+        return at;
+    }
+    replies[at] = reply.first;
+    if reply.count == 1 {
+        return at + 1;
+    }
+    replies[at + 1] = reply.second;
+    at + 2
+}
+
+// Obeys a piece as far as the reply room goes.
+fn run(
+    screen: &mut [u8],
+    store: &mut [u8],
+    state: State,
+    piece: &[u8],
+    replies: &mut [u8],
+) -> Progress
+    requires { ⌜ Kept (world (now screen) (now store) state) ⌝ }
+    ensures { λ r. ⌜ Ran (world (now (screen .entry)) (now (store .entry)) state) (now (piece .entry)) (now (replies .entry)) (world (now (screen .exit)) (now (store .exit)) (r .state)) (now (replies .exit)) (r .answer) (r .consumed) (r .replied) ⌝ }
+{
+    let mut s = state;
+    let mut i = 0;
+    let mut at = 0;
+    while i < piece.len() {
+        if replies.len() - at < REPLY_ROOM {
+            return Progress {
+                state: s,
+                answer: NO_REPLY_ROOM,
+                consumed: i,
+                replied: at,
+            };
+        }
+        let o = step(screen, store, s, ROWS, piece[i]);
+        at = send(replies, at, o.reply);
+        let next = o.state;
+        s = next;
+        i += 1;
+    }
+    Progress {
+        state: s,
+        answer: DONE,
+        consumed: i,
+        replied: at,
+    }
+}
+
+fn store_fits(store: &[u8]) -> bool
+    ensures { λ r. ⌜ r ≡ storeFits (now (store .entry)) ⌝ }
+{
+    if store.len() < STORE_LEAST {
+        return false;
+    }
+    store.len() <= STORE_MOST
+}
+
+// Whether an upload under way would now be refused.
+fn is_blocked(store: &[u8], phase: Phase) -> bool
+    ensures { λ r. ⌜ r ≡ uploadRefused (now (store .entry)) phase ⌝ }
+{
+    match phase {
+        Phase::Idle => false,
+        Phase::Prefix => false,
+        Phase::Gathering { code: _, got: _ } => false,
+        Phase::Inline {
+            x1: _,
+            y1: _,
+            x2: _,
+            y2: _,
+            done: _,
+        } => false,
+        Phase::Upload {
+            kind,
+            number,
+            size,
+            stored: _,
+            waiting: _,
+            byte: _,
+        } => is_turned_away(store, kind, number, size),
+    }
+}
+
+// Nothing held, nothing lost; the ring's bytes stay.
+fn empty_queue(queue: &mut [u8])
+    requires { ⌜ length (now queue) ≡ 85 ⌝ }
+    ensures { λ _. ⌜ now (queue .exit) ≡ emptied (now (queue .entry)) ⌝ }
+{
+    queue[PLACE] = 0;
+    queue[HELD] = 0;
+    queue[MARK] = 0;
+    queue[LOST] = 0;
+    queue[LOST_HIGH] = 0;
+}
+
+// A white glass, the start's state, an empty queue; the store stays.
+#[no_mangle]
+pub extern "C" fn display_start(
+    glass: &mut [u8],
+    store: &mut [u8],
+    state: &mut [u8],
+    queue: &mut [u8],
+) -> u32
+    ensures { λ r. ⌜ started (memory (now (glass .exit)) (now (store .exit)) (now (state .exit))) (now (queue .exit)) r ≡ startOf (memory (now (glass .entry)) (now (store .entry)) (now (state .entry))) (now (queue .entry)) ⌝ }
+{
+    if glass.len() != LENGTH {
+        return BAD_GLASS;
+    }
+    if !store_fits(store) {
+        return BAD_STORE;
+    }
+    if state.len() != record::RECORD {
+        return BAD_RECORD;
+    }
+    if queue.len() != queue::RECORD {
+        return BAD_RECORD;
+    }
+    if !is_valid(store) {
+        return BAD_DIRECTORY;
+    }
+    scroll::clear(glass);
+    let s = start_state(ROWS);
+    record::encode(s, state);
+    empty_queue(queue);
+    DONE
+}
+
+// A piece of the stream.
+#[no_mangle]
+pub extern "C" fn display_feed(
+    glass: &mut [u8],
+    store: &mut [u8],
+    state: &mut [u8],
+    piece: &[u8],
+    replies: &mut [u8],
+    consumed: &mut usize,
+    replied: &mut usize,
+) -> u32
+    ensures { λ r. ⌜ called r (memory (now (glass .exit)) (now (store .exit)) (now (state .exit))) (now (replies .exit)) (now (consumed .exit)) (now (replied .exit)) ≡ feedCall (memory (now (glass .entry)) (now (store .entry)) (now (state .entry))) (now (piece .entry)) (now (replies .entry)) ⌝ }
+{
+    *consumed = 0;
+    *replied = 0;
+    if glass.len() != LENGTH {
+        return BAD_GLASS;
+    }
+    if !store_fits(store) {
+        return BAD_STORE;
+    }
+    if !record::is_record(state, ROWS) {
+        return BAD_RECORD;
+    }
+    if !is_valid(store) {
+        return BAD_DIRECTORY;
+    }
+    let s = record::decode(state);
+    let port = s.port;
+    let phase = port.phase;
+    if is_blocked(store, phase) {
+        return BAD_DIRECTORY;
+    }
+    let ran = run(glass, store, s, piece, replies);
+    let next = ran.state;
+    record::encode(next, state);
+    *consumed = ran.consumed;
+    *replied = ran.replied;
+    ran.answer
+}
+
+// A byte comes in on the line.
+#[no_mangle]
+pub extern "C" fn display_arrive(state: &[u8], queue: &mut [u8], byte: u8, signal: &mut u8) -> u32
+    ensures { λ r. ⌜ served r 0 (now (signal .exit)) (now (queue .exit)) ≡ arriveCall (now (state .entry)) (now (queue .entry)) byte ⌝ }
+{
+    *signal = 0;
+    if !record::is_record(state, ROWS) {
+        return BAD_RECORD;
+    }
+    if !queue::sound(queue) {
+        return BAD_RECORD;
+    }
+    let s = record::decode(state);
+    let flow = s.port.flow;
+    let arrival = queue::arrive(queue::decode(queue), flow, byte);
+    let next = arrival.queue;
+    queue::encode(next, queue);
+    *signal = arrival.signal;
+    arrival.answer as u32
+}
+
+// A byte is taken to be fed.
+#[no_mangle]
+pub extern "C" fn display_take(
+    state: &[u8],
+    queue: &mut [u8],
+    byte: &mut u8,
+    signal: &mut u8,
+) -> u32
+    ensures { λ r. ⌜ served r (now (byte .exit)) (now (signal .exit)) (now (queue .exit)) ≡ takeCall (now (state .entry)) (now (queue .entry)) ⌝ }
+{
+    *byte = 0;
+    *signal = 0;
+    if !record::is_record(state, ROWS) {
+        return BAD_RECORD;
+    }
+    if !queue::sound(queue) {
+        return BAD_RECORD;
+    }
+    let s = record::decode(state);
+    let flow = s.port.flow;
+    let taken = queue::take(queue::decode(queue), flow);
+    let next = taken.queue;
+    queue::encode(next, queue);
+    *byte = taken.byte;
+    *signal = taken.signal;
+    taken.answer as u32
+}
