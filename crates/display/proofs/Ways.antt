@@ -2,13 +2,13 @@
 -- Assumes nothing.
 use mathlib.Core.Path.{_≡_, _∙_, refl, sym, ap, subst}
 use mathlib.Core.List.{List, [], _∷_, _++_, append-nil}
-use mathlib.Core.Bool.{Bool, true, false, cond, not, _&&_, _||_}
-use Prim.Native.Nat.{ℕ, _+_, _<_, _≤_}
+use mathlib.Core.Bool.{Bool, true, false, cond, not, _||_}
+use Prim.Native.Nat.{ℕ, _<_, _≤_}
 use native.Mathlib.Omega.{arith}
 use native.Mathlib.Nat.{zero-add}
 use lib.Dec.{eqb, leb}
-use lib.ListN.{length, getD, take, drop, set, replicate, drop-of-length-le}
-use lib.Seq.{sets, sets-eq, take-all}
+use lib.ListN.{length, getD, take, drop, set, drop-of-length-le}
+use lib.Seq.{sets-eq, take-all}
 use borrow.Author.Tests.{eq-eqb, ne-eqb, le-leb, lt-leb, not-true, not-false}
 use Rattle.pixels.specs.Framebuffer.{fill}
 use Rattle.pixels.specs.Regions.{everywhere}
@@ -34,14 +34,14 @@ use Rattle.record.proofs.Round.{encoded-whole, passed}
 use Rattle.record.proofs.Whole.{written-whole}
 use Rattle.rules.specs.World.{World, world}
 use Rattle.rules.specs.Files.{inUse, noRoom}
-use Rattle.rules.specs.Calls.{run, said, taken}
+use Rattle.rules.specs.Calls.{said, taken}
 use Rattle.rules.proofs.Replies.{said-fits}
 use Rattle.calls.specs.Memory.{Memory, memory, storeFits, uploadRefused, checked, loaded, saved, Kept}
-use Rattle.calls.specs.Feed.{Fed, fed, fedBytes, feedOf}
+use Rattle.calls.specs.Feed.{fedBytes, feedOf}
 use Rattle.calls.specs.Start.{started, startChecked, startOf, emptied}
 use Rattle.calls.specs.Line.{served, arriveCall, takeCall}
 use Rattle.calls.proofs.Demands.{checked-kept, state-fits}
-use Rattle.display.specs.Exports.{Called, called, calledBy, feedCall}
+use Rattle.display.specs.Exports.{called, calledBy, feedCall}
 use Rattle.display.specs.Running.{Ran}
 
 -- ---- the checks

@@ -1,12 +1,11 @@
 -- The rules of these commands, each way by itself.
 -- Assumes nothing.
-use mathlib.Core.Path.{_≡_, refl}
-use mathlib.Core.Bool.{Bool, true, false, not, _&&_}
+use mathlib.Core.Path.{_≡_}
+use mathlib.Core.Bool.{Bool, true, false, not}
 use mathlib.Core.List.{List, []}
-use native.Mathlib.Omega.{arith}
 use Prim.Native.Nat.{ℕ, _<_, _≤_}
 use lib.Dec.{leb}
-use borrow.Author.Tests.{le-leb, lt-leb, not-true, not-false}
+use borrow.Author.Tests.{le-leb, lt-leb}
 use Rattle.pixels.specs.Framebuffer.{fill}
 use Rattle.pixels.specs.Regions.{point, rectangle, everywhere}
 use Rattle.canvas.specs.declared.Colour.{Colour}
@@ -14,8 +13,7 @@ use Rattle.canvas.specs.Colour.{colourOf}
 use Rattle.line.specs.Line.{line}
 use Rattle.rectangle.specs.Frame.{frame}
 use Rattle.state.specs.declared.State.{State}
-use Rattle.state.specs.State.{withDrawing}
-use Rattle.rules.specs.World.{World, world, port, withPort, putText, quietly, refused}
+use Rattle.rules.specs.World.{World, world, port, putText, quietly, refused}
 use Rattle.rules.specs.Text.{home}
 use Rattle.rules.specs.Drawing.{clear, drawing, putDrawing, setColour, drawPixel, drawLine, ordered, drawFrame, fillRectangle}
 

@@ -1,7 +1,7 @@
 -- The rules of these commands, each way by itself.
 -- Assumes nothing.
-use mathlib.Core.Path.{_≡_, _∙_, refl, ap}
-use mathlib.Core.Bool.{Bool, true, false, not, _&&_}
+use mathlib.Core.Path.{_≡_}
+use mathlib.Core.Bool.{Bool, true, false, not}
 use mathlib.Core.List.{List, []}
 use native.Mathlib.Omega.{arith}
 use Prim.Native.Nat.{ℕ, _%_, _<_, _≤_}
@@ -13,11 +13,9 @@ use Rattle.bar_graph.specs.declared.Bar.{Bar}
 use Rattle.bar_graph.specs.Bars.{writeOf, writtenBar}
 use Rattle.strip_chart.specs.Strips.{shiftedStrip}
 use Rattle.state.specs.declared.State.{State}
-use Rattle.state.specs.declared.Strip.{Strip}
-use Rattle.state.specs.declared.BarSlot.{BarSlot}
 use Rattle.state.specs.State.{barOf, strip, barAt, stripAt}
-use Rattle.rules.specs.World.{World, world, rows, panel, quietly, refused}
-use Rattle.rules.specs.Bars.{onScreen, apart, setUpBar, writeBar, setUpStrip, shiftStrip}
+use Rattle.rules.specs.World.{world, panel, quietly, refused}
+use Rattle.rules.specs.Bars.{apart, setUpBar, writeBar, setUpStrip, shiftStrip}
 use Rattle.graphs.specs.Graphs.{onScreenOf, withBarOf, withStripOf}
 
 -- ---- the tests

@@ -1,13 +1,12 @@
 -- The rules of these commands, each way by itself.
 -- Assumes nothing.
-use mathlib.Core.Path.{_≡_, _∙_, refl, sym, ap}
-use mathlib.Core.Bool.{Bool, true, false, cond, not, _&&_}
+use mathlib.Core.Path.{_≡_, _∙_, refl, sym}
+use mathlib.Core.Bool.{Bool, true, false, not, _&&_}
 use mathlib.Core.List.{List, []}
-use native.Mathlib.Omega.{arith}
 use Prim.Native.Nat.{ℕ, _+_, _<_, _≤_}
 use lib.Dec.{leb, ltb}
 use lib.ListN.{take, drop}
-use borrow.Author.Tests.{lt-ltb, le-ltb, leb-true, ltb-true, not-true, not-false}
+use borrow.Author.Tests.{lt-ltb, le-ltb, leb-true, ltb-true}
 use Rattle.file_laws.proofs.Written.{and-both}
 use Rattle.directory.specs.declared.Found.{Found}
 use Rattle.directory.specs.declared.Found.the-variants.{At, Nothing}
@@ -20,12 +19,12 @@ use Rattle.bitmap.specs.Bitmaps.{packedBox, inlineByte}
 use Rattle.state.specs.declared.Phase.the-variants.{Idle, Inline}
 use Rattle.state.specs.declared.State.{State}
 use Rattle.state.specs.Soundness.{inlineBytes, soundInline}
-use Rattle.rules.specs.World.{World, world, quietly, refused, Outcome as Ruled}
+use Rattle.rules.specs.World.{World, world, quietly, refused}
 use Rattle.rules.specs.Drawing.{ordered}
 use Rattle.rules.specs.Pictures.{bitmapIn, bitmapAt, showBitmap, beginInline, inlineData}
 use Rattle.outcome.specs.declared.Outcome.{Outcome}
 use Rattle.outcome.specs.Outcome.{inPhaseOf}
-use Rattle.outcome.specs.Contract.{Came, Paints, Shows}
+use Rattle.outcome.specs.Contract.{Paints, Shows}
 
 good-is : (t : Bool) → checkOf t ≡ Good → t ≡ true
 good-is true e = refl

@@ -1,11 +1,10 @@
 -- The rules of these commands, each way by itself.
 -- Assumes nothing.
 use mathlib.Core.Path.{_≡_, refl}
-use mathlib.Core.Bool.{Bool, true, false}
+use mathlib.Core.Bool.{true, false}
 use mathlib.Core.List.{[], _∷_}
 use native.Mathlib.Omega.{arith}
 use Prim.Native.Nat.{ℕ, _+_, _<_, _≤_}
-use lib.Dec.{leb}
 use borrow.Author.Tests.{le-leb, lt-leb}
 use Rattle.state.specs.State.{withFlow, withContrast, withBacklight, withSerial}
 use Rattle.rules.specs.World.{World, port, panel, withPort, withPanel, done, quietly, refused}

@@ -4,8 +4,8 @@ use mathlib.Core.Path.{_≡_, _∙_, refl, sym, ap}
 use mathlib.Core.Bool.{Bool, true, false, cond, not, _&&_, _||_}
 use mathlib.Core.List.{List, [], _∷_}
 use native.Mathlib.Omega.{arith}
-use Prim.Native.Nat.{ℕ, _+_, _-_, _<_, _≤_}
-use lib.Dec.{eqb, leb, ltb}
+use Prim.Native.Nat.{ℕ, _+_, _<_, _≤_}
+use lib.Dec.{eqb, ltb}
 use lib.ListN.{length}
 use borrow.Author.Tests.{not-true, not-false, eq-eqb, ne-eqb, lt-ltb, le-ltb, le-leb, lt-leb}
 use Rattle.pixels.specs.Framebuffer.{height}
@@ -17,9 +17,8 @@ use Rattle.directory.specs.Directory.{entries, totalsOf, isFile, hasFile, findI
 use Rattle.files.specs.Files.{unusedOf, entry, appended, isThere, deleted, purged, storedByte}
 use Rattle.state.specs.declared.Phase.the-variants.{Idle, Upload}
 use Rattle.state.specs.declared.State.{State}
-use Rattle.state.specs.declared.Text.{Text}
 use Rattle.state.specs.State.{startText}
-use Rattle.rules.specs.World.{World, world, done, quietly, refused}
+use Rattle.rules.specs.World.{world, done, quietly, refused}
 use Rattle.rules.specs.Text.{withFont}
 use Rattle.rules.specs.Files.{inUse, noRoom, beginUpload, uploadData, deleteFile, purge}
 use Rattle.outcome.specs.declared.Outcome.{Outcome}

@@ -1,15 +1,13 @@
 -- The rules of text, each way by itself.
 -- Assumes nothing.
-use mathlib.Core.Path.{_≡_, _∙_, refl, sym, ap}
-use mathlib.Core.Bool.{Bool, true, false, cond, not, _&&_, _||_}
-use mathlib.Core.List.{List, [], _∷_}
-use native.Mathlib.Omega.{arith}
+use mathlib.Core.Path.{_≡_, _∙_, refl, sym}
+use mathlib.Core.Bool.{Bool, true, false}
+use mathlib.Core.List.{List, []}
 use native.Mathlib.Nat.{mul-le-mul}
 use Prim.Native.Nat.{ℕ, _+_, _-_, _*_, _<_, _≤_}
-use lib.Dec.{eqb, leb}
 use lib.ListN.{take, drop}
-use borrow.Author.Tests.{eq-eqb, ne-eqb, le-leb, lt-leb, not-true, not-false}
-use Rattle.pixels.specs.Framebuffer.{width, height}
+use borrow.Author.Tests.{eq-eqb, ne-eqb, le-leb, lt-leb}
+use Rattle.pixels.specs.Framebuffer.{height}
 use Rattle.directory.specs.declared.Found.{Found}
 use Rattle.directory.specs.declared.Found.the-variants.{At, Nothing}
 use Rattle.directory.specs.Directory.{findOf}
@@ -19,13 +17,12 @@ use Rattle.fonts.specs.Checks.{checkOf}
 use Rattle.fonts.specs.Fonts.{isFont, nominalWidth, heightOf}
 use Rattle.builtin_font.specs.Table.{table}
 use Rattle.state.specs.declared.State.{State}
-use Rattle.state.specs.declared.Text.{Text}
-use Rattle.rules.specs.World.{World, world, rows, quietly, refused}
-use Rattle.rules.specs.Fonts.{Opened, opened, shut, openedAt, openFont}
+use Rattle.rules.specs.World.{world, quietly, refused}
+use Rattle.rules.specs.Fonts.{opened, shut, openedAt, openFont}
 use Rattle.rules.specs.Text.{withFont, atPoint, fontChosen, chooseFont, placeX, placeY, placeIn, setPlace, characterIn, character}
 use Rattle.outcome.specs.declared.Outcome.{Outcome}
 use Rattle.outcome.specs.Outcome.{putTextOf}
-use Rattle.outcome.specs.Contract.{Came, SetsOn, StoresOn, PaintsOn, ShowsOn}
+use Rattle.outcome.specs.Contract.{SetsOn, StoresOn, PaintsOn, ShowsOn}
 
 -- ---- the font of a number
 

@@ -1,13 +1,13 @@
 -- Where a character goes: the ways of its wrap and of its room, and the character drawn there.
 -- Assumes nothing.
-use mathlib.Core.Path.{_≡_, _∙_, refl, sym, ap}
+use mathlib.Core.Path.{_≡_, _∙_, refl, sym}
 use mathlib.Core.Bool.{Bool, true, false, cond, not, _&&_}
 use mathlib.Core.List.{List, []}
 use native.Mathlib.Omega.{arith}
 use Prim.Native.Nat.{ℕ, _+_, _<_, _≤_}
-use lib.Dec.{eqb, leb}
+use lib.Dec.{leb}
 use lib.ListN.{drop}
-use borrow.Author.Tests.{eq-eqb, ne-eqb, le-leb, lt-leb, leb-true, not-true, not-false}
+use borrow.Author.Tests.{eq-eqb, ne-eqb, le-leb, lt-leb, leb-true}
 use Rattle.file_laws.proofs.Written.{and-both}
 use Rattle.pixels.specs.Framebuffer.{width, height}
 use Rattle.bitmap.specs.Bitmaps.{packedBox}
@@ -17,7 +17,7 @@ use Rattle.fonts.specs.declared.Glyph.the-variants.{At as GlyphAt, Missing}
 use Rattle.fonts.specs.Fonts.{heightOf, glyphOf}
 use Rattle.state.specs.declared.State.{State}
 use Rattle.state.specs.declared.Text.{Text}
-use Rattle.rules.specs.World.{World, world, quietly, refused}
+use Rattle.rules.specs.World.{world, quietly, refused}
 use Rattle.rules.specs.Fonts.{opened}
 use Rattle.rules.specs.Text.{atPoint, Place as Ruled, place, nowhere, wrapped, roomFor, movedUp, glyphAt, glyphOn, characterIn}
 use Rattle.outcome.specs.Outcome.{putTextOf}

@@ -2,109 +2,76 @@ use Rattle.display.proofs.Ways.{feed-1, feed-2, feed-3, feed-4, feed-4-
 use borrow.Author.Needs.{needs}
 use Rattle.display.proofs.display_feed.Statement.{statement}
 use Rattle.display.proofs.display_feed.Tie as tie
-use Rattle.display.proofs.display_feed.Reads as reads
-use Rattle.display.proofs.display_feed.Lts as lts
-use Rattle.directory.proofs.is_valid.Reads as is-valid-reads
-use Rattle.display.proofs.is_blocked.Reads as is-blocked-reads
-use Rattle.display.proofs.run.Reads as run-reads
-use Rattle.display.proofs.store_fits.Reads as store-fits-reads
-use Rattle.record.proofs.decode.Reads as decode-reads
-use Rattle.record.proofs.encode.Reads as encode-reads
-use Rattle.record.proofs.is_record.Reads as is-record-reads
 
--- src/lib.rt:196:9
 returns : tie.Need-returns
 returns c = feed-1 _ _ _ _ _ (search needs)
 
--- src/lib.rt:198:9
 store-fits-requires : tie.Need-store-fits-requires
 store-fits-requires c κs = search needs
 
--- src/lib.rt:199:9
 same-length : tie.Need-same-length
 same-length c = search needs
 
--- src/lib.rt:199:9
 returns-2 : tie.Need-returns-2
 returns-2 c = feed-2 _ _ _ _ _ (search needs) _ (c .before .store-fits .ensures) (search needs)
 
--- src/lib.rt:201:9
 is-record-requires : tie.Need-is-record-requires
 is-record-requires c κs = search needs
 
--- src/lib.rt:202:9
 same-length-2 : tie.Need-same-length-2
 same-length-2 c = search needs
 
--- src/lib.rt:202:9
 same-length-3 : tie.Need-same-length-3
 same-length-3 c = search needs
 
--- src/lib.rt:202:9
 returns-3 : tie.Need-returns-3
 returns-3 c = feed-3 _ _ _ _ _ (c .before .before .before .before .before .before .if1 .left) _ (c .before .before .before .before .store-fits .ensures) (c .before .before .before .if2 .left) _ (c .before .is-record .ensures) (search needs)
 
--- src/lib.rt:204:9
 is-valid-requires : tie.Need-is-valid-requires
 is-valid-requires c κs = search needs
 
--- src/lib.rt:205:9
 same-length-4 : tie.Need-same-length-4
 same-length-4 c = search needs
 
--- src/lib.rt:205:9
 same-length-5 : tie.Need-same-length-5
 same-length-5 c = search needs
 
--- src/lib.rt:205:9
 returns-4 : tie.Need-returns-4
 returns-4 c = feed-4 _ _ _ _ _ (c .before .before .before .before .before .before .before .before .before .if1 .left) _ (c .before .before .before .before .before .before .before .store-fits .ensures) (c .before .before .before .before .before .before .if2 .left) _ (c .before .before .before .before .is-record .ensures) (c .before .before .before .if3 .left) _ (c .before .is-valid .ensures) (search needs)
 
--- src/lib.rt:207:9
 decode-requires : tie.Need-decode-requires
 decode-requires c κs = search needs
 
--- src/lib.rt:210:8
 is-blocked-requires : tie.Need-is-blocked-requires
 is-blocked-requires c κs = search needs
 
--- src/lib.rt:211:9
 same-length-6 : tie.Need-same-length-6
 same-length-6 c = search needs
 
--- src/lib.rt:211:9
 same-length-7 : tie.Need-same-length-7
 same-length-7 c = search needs
 
--- src/lib.rt:211:9
 returns-5 : tie.Need-returns-5
 returns-5 c = feed-4-upload _ _ _ _ _ (c .before .before .before .before .before .before .before .before .before .before .before .before .before .before .before .if1 .left) _ (c .before .before .before .before .before .before .before .before .before .before .before .before .before .store-fits .ensures) (c .before .before .before .before .before .before .before .before .before .before .before .before .if2 .left) _ (c .before .before .before .before .before .before .before .before .before .before .is-record .ensures) (c .before .before .before .before .before .before .before .before .before .if3 .left) _ (c .before .before .before .before .before .before .before .is-valid .ensures) (c .before .before .before .before .before .before .if4 .left) _ _ (c .before .before .before .before .decode .ensures) (c .before .is-blocked .ensures) (search needs)
 
--- src/lib.rt:213:9
 run-requires : tie.Need-run-requires
 run-requires c κs = kept-there _ _ (c .before .before .before .before .before .before .before .before .before .before .before .before .before .before .before .before .before .before .before .before .before .before .before .before .args .state .now) _ (λ i. c .before .before .before .before .before .before .before .before .before .before .before .before .before .before .before .before .before .before .before .before .before .before .before .slice-known .given i .fits) (λ i. c .before .before .before .before .before .before .before .before .before .before .before .before .before .before .before .before .before .before .before .before .before .before .slice-known2 .given i .fits) (λ i. c .before .before .before .before .before .before .before .before .before .before .before .before .before .before .before .before .before .before .before .before .before .slice-known3 .given i .fits) (passes _ _ _ (c .before .before .before .before .before .before .before .before .before .before .before .before .before .before .before .before .before .before .before .before .before .before .before .before .args .piece .now) (c .before .before .before .before .before .before .before .before .before .before .before .before .before .before .before .before .before .before .before .before .before .before .before .before .args .replies .now) (c .before .before .before .before .before .before .before .before .before .before .before .before .before .before .before .before .before .before .if1 .left) _ (c .before .before .before .before .before .before .before .before .before .before .before .before .before .before .before .before .store-fits .ensures) (c .before .before .before .before .before .before .before .before .before .before .before .before .before .before .before .if2 .left) _ (c .before .before .before .before .before .before .before .before .before .before .before .before .before .is-record .ensures) (c .before .before .before .before .before .before .before .before .before .before .before .before .if3 .left) _ (c .before .before .before .before .before .before .before .before .before .before .is-valid .ensures) (c .before .before .before .before .before .before .before .before .before .if4 .left) _ _ (c .before .before .before .before .before .before .before .decode .ensures) (c .before .before .before .before .is-blocked .ensures) (c .before .before .before .if5 .left)) (c .before .before .before .before .before .before .before .decode .ensures)
 
--- src/lib.rt:215:5
 encode-requires : tie.Need-encode-requires
 encode-requires c κs = search needs
 
--- src/lib.rt:181:1
 same-length-8 : tie.Need-same-length-8
 same-length-8 c = search needs
 
--- src/lib.rt:181:1
 same-length-9 : tie.Need-same-length-9
 same-length-9 c = search needs
 
--- src/lib.rt:181:1
 same-length-10 : tie.Need-same-length-10
 same-length-10 c = search needs
 
--- src/lib.rt:181:1
 same-length-11 : tie.Need-same-length-11
 same-length-11 c = search needs
 
--- src/lib.rt:181:1
 returns-6 : tie.Need-returns-6
 returns-6 c = feed-end _ _ _ _ _ _ _ _ _ _ _ _ _ _ _ (passes _ _ _ (c .before .before .before .before .before .before .before .before .before .before .before .before .before .before .before .before .before .before .before .before .before .before .before .before .before .before .before .before .before .before .before .before .before .before .before .before .args .piece .now) (c .before .before .before .before .before .before .before .before .before .before .before .before .before .before .before .before .before .before .before .before .before .before .before .before .before .before .before .before .before .before .before .before .before .before .before .before .args .replies .now) (c .before .before .before .before .before .before .before .before .before .before .before .before .before .before .before .before .before .before .before .before .before .before .before .before .before .before .before .before .before .before .if1 .left) _ (c .before .before .before .before .before .before .before .before .before .before .before .before .before .before .before .before .before .before .before .before .before .before .before .before .before .before .before .before .store-fits .ensures) (c .before .before .before .before .before .before .before .before .before .before .before .before .before .before .before .before .before .before .before .before .before .before .before .before .before .before .before .if2 .left) _ (c .before .before .before .before .before .before .before .before .before .before .before .before .before .before .before .before .before .before .before .before .before .before .before .before .before .is-record .ensures) (c .before .before .before .before .before .before .before .before .before .before .before .before .before .before .before .before .before .before .before .before .before .before .before .before .if3 .left) _ (c .before .before .before .before .before .before .before .before .before .before .before .before .before .before .before .before .before .before .before .before .before .before .is-valid .ensures) (c .before .before .before .before .before .before .before .before .before .before .before .before .before .before .before .before .before .before .before .before .before .if4 .left) _ _ (c .before .before .before .before .before .before .before .before .before .before .before .before .before .before .before .before .before .before .before .decode .ensures) (c .before .before .before .before .before .before .before .before .before .before .before .before .before .before .before .before .is-blocked .ensures) (c .before .before .before .before .before .before .before .before .before .before .before .before .before .before .before .if5 .left)) (c .before .before .before .before .before .before .before .before .before .before .before .before .before .before .before .before .before .before .before .before .before .before .before .before .before .is-record .ensures) (c .before .before .before .before .before .before .before .before .before .before .before .before .before .before .before .before .before .before .before .before .before .before .before .before .if3 .left) (c .before .before .before .before .before .before .before .before .before .before .before .before .before .before .before .before .before .before .before .decode .ensures) (c .before .before .before .before .before .before .before .before .before .before .before .run .ensures) (c .before .before .encode .ensures)
 

@@ -2,92 +2,64 @@ use Rattle.display.proofs.Ways.{start-1, start-2, start-3, start-3-queu
 use borrow.Author.Needs.{needs}
 use Rattle.display.proofs.display_start.Statement.{statement}
 use Rattle.display.proofs.display_start.Tie as tie
-use Rattle.display.proofs.display_start.Reads as reads
-use Rattle.display.proofs.display_start.Lts as lts
-use Rattle.directory.proofs.is_valid.Reads as is-valid-reads
-use Rattle.display.proofs.empty_queue.Reads as empty-queue-reads
-use Rattle.display.proofs.store_fits.Reads as store-fits-reads
-use Rattle.record.proofs.encode.Reads as encode-reads
-use Rattle.scroll.proofs.clear.Reads as clear-reads
-use Rattle.state.proofs.start_state.Reads as start-state-reads
 
--- src/lib.rt:159:9
 returns : tie.Need-returns
 returns c = start-1 _ _ _ _ (search needs)
 
--- src/lib.rt:161:9
 store-fits-requires : tie.Need-store-fits-requires
 store-fits-requires c κs = search needs
 
--- src/lib.rt:162:9
 same-length : tie.Need-same-length
 same-length c = search needs
 
--- src/lib.rt:162:9
 returns-2 : tie.Need-returns-2
 returns-2 c = start-2 _ _ _ _ (search needs) _ (c .before .store-fits .ensures) (search needs)
 
--- src/lib.rt:165:9
 same-length-2 : tie.Need-same-length-2
 same-length-2 c = search needs
 
--- src/lib.rt:165:9
 returns-3 : tie.Need-returns-3
 returns-3 c = start-3 _ _ _ _ (search needs) _ (c .before .before .store-fits .ensures) (search needs) (search needs)
 
--- src/lib.rt:168:9
 same-length-3 : tie.Need-same-length-3
 same-length-3 c = search needs
 
--- src/lib.rt:168:9
 returns-4 : tie.Need-returns-4
 returns-4 c = start-3-queue _ _ _ _ (search needs) _ (c .before .before .before .store-fits .ensures) (search needs) (search needs) (search needs)
 
--- src/lib.rt:170:9
 is-valid-requires : tie.Need-is-valid-requires
 is-valid-requires c κs = search needs
 
--- src/lib.rt:171:9
 same-length-4 : tie.Need-same-length-4
 same-length-4 c = search needs
 
--- src/lib.rt:171:9
 returns-5 : tie.Need-returns-5
 returns-5 c = start-4 _ _ _ _ (c .before .before .before .before .before .before .before .before .if1 .left) _ (c .before .before .before .before .before .before .store-fits .ensures) (c .before .before .before .before .before .if2 .left) (c .before .before .before .before .if3 .left) (c .before .before .before .if4 .left) _ (c .before .is-valid .ensures) (search needs)
 
--- src/lib.rt:173:5
 clear-requires : tie.Need-clear-requires
 clear-requires c κs = search needs
 
--- src/lib.rt:174:9
 start-state-requires : tie.Need-start-state-requires
 start-state-requires c κs = search needs
 
--- src/lib.rt:175:5
 encode-requires : tie.Need-encode-requires
 encode-requires c κs = search needs
 
--- src/lib.rt:176:5
 empty-queue-requires : tie.Need-empty-queue-requires
 empty-queue-requires c κs = search needs
 
--- src/lib.rt:154:1
 same-length-5 : tie.Need-same-length-5
 same-length-5 c = search needs
 
--- src/lib.rt:154:1
 same-length-6 : tie.Need-same-length-6
 same-length-6 c = search needs
 
--- src/lib.rt:154:1
 same-length-7 : tie.Need-same-length-7
 same-length-7 c = search needs
 
--- src/lib.rt:154:1
 same-length-8 : tie.Need-same-length-8
 same-length-8 c = search needs
 
--- src/lib.rt:154:1
 returns-6 : tie.Need-returns-6
 returns-6 c = start-0 _ _ _ _ (c .before .before .before .before .before .before .before .before .before .before .before .before .before .before .before .before .before .before .before .before .before .if1 .left) _ (c .before .before .before .before .before .before .before .before .before .before .before .before .before .before .before .before .before .before .before .store-fits .ensures) (c .before .before .before .before .before .before .before .before .before .before .before .before .before .before .before .before .before .before .if2 .left) (c .before .before .before .before .before .before .before .before .before .before .before .before .before .before .before .before .before .if3 .left) (c .before .before .before .before .before .before .before .before .before .before .before .before .before .before .before .before .if4 .left) _ (c .before .before .before .before .before .before .before .before .before .before .before .before .before .before .is-valid .ensures) _ _ _ _ (c .before .before .before .before .before .before .before .before .before .before .before .before .before .if5 .left) (c .before .before .before .before .before .before .before .before .before .before .before .clear .ensures) (c .before .before .before .before .before .before .before .before .start-state .ensures) (c .before .before .before .before .before .before .encode .ensures) (c .before .before .empty-queue .ensures)
 

@@ -4,34 +4,25 @@ use lib.ListN.{length-set}
 use borrow.Author.Needs.{needs}
 use Rattle.display.proofs.empty_queue.Statement.{statement}
 use Rattle.display.proofs.empty_queue.Tie as tie
-use Rattle.display.proofs.empty_queue.Reads as reads
-use Rattle.display.proofs.empty_queue.Lts as lts
 
--- src/lib.rt:146:5
 slice-write-queue : tie.Need-slice-write-queue
 slice-write-queue c = search needs
 
--- src/lib.rt:147:5
 slice-write-queue-2 : tie.Need-slice-write-queue-2
 slice-write-queue-2 c = search needs
 
--- src/lib.rt:148:5
 slice-write-queue-3 : tie.Need-slice-write-queue-3
 slice-write-queue-3 c = search needs
 
--- src/lib.rt:149:5
 slice-write-queue-4 : tie.Need-slice-write-queue-4
 slice-write-queue-4 c = search needs
 
--- src/lib.rt:150:5
 slice-write-queue-5 : tie.Need-slice-write-queue-5
 slice-write-queue-5 c = simp length-set (omega (arith, c .pre))
 
--- src/lib.rt:142:1
 same-length : tie.Need-same-length
 same-length c = search needs
 
--- src/lib.rt:142:1
 returns : tie.Need-returns
 returns c = emptied-is (c .args .queue .now) (c .pre)
 

@@ -7,10 +7,6 @@ use Rattle.rules.specs.World.{world}
 use Rattle.display.proofs.Feeding.{Feeding, feeding-start, feeding-step, feeding-stop, feeding-end, room-known, tall, phase-sound}
 use Rattle.display.proofs.run.Statement.{statement}
 use Rattle.display.proofs.run.Tie as tie
-use Rattle.display.proofs.run.Reads as reads
-use Rattle.display.proofs.run.Lts as lts
-use Rattle.display.proofs.send.Reads as send-reads
-use Rattle.interpreter.proofs.step.Reads as step-reads
 
 abbrev Inv-loop : tie.InvT-loop
 Inv-loop screen₀ store₀ piece replies₀ s₀ i₀ at₀ screen store replies s i at =
@@ -20,67 +16,51 @@ Inv-loop screen₀ store₀ piece replies₀ s₀ i₀ at₀ screen store replie
 abbrev μ-loop : tie.MeasureT-loop
 μ-loop screen₀ store₀ piece replies₀ s₀ i₀ at₀ screen store replies s i at = length piece - i
 
--- src/lib.rt:83:5
 loop-holds : tie.Need-loop-holds Inv-loop μ-loop
 loop-holds c = (refl, refl, refl, feeding-start _ _ _ (c .before .before .before .before .pre))
 
--- src/lib.rt:84:12
 sub-if1 : tie.Need-sub-if1 Inv-loop μ-loop
 sub-if1 c = room-known (c .before .loop .inv .3) .1
 
--- src/lib.rt:85:13
 same-length : tie.Need-same-length Inv-loop μ-loop
 same-length c = search needs
 
--- src/lib.rt:85:13
 same-length-2 : tie.Need-same-length-2 Inv-loop μ-loop
 same-length-2 c = search needs
 
--- src/lib.rt:85:13
 same-length-3 : tie.Need-same-length-3 Inv-loop μ-loop
 same-length-3 c = search needs
 
--- src/lib.rt:85:13
 returns : tie.Need-returns Inv-loop μ-loop
 returns c = feeding-stop (c .before .before .loop .inv .3) (search needs) (search needs)
 
--- src/lib.rt:92:46
 shared-slice-read-step : tie.Need-shared-slice-read-step Inv-loop μ-loop
 shared-slice-read-step c = search needs
 
--- src/lib.rt:92:13
 step-requires : tie.Need-step-requires Inv-loop μ-loop
 step-requires c κs = (tall _ (c .before .before .before .before .before .loop .inv .3 .kept), phase-sound _ (c .before .before .before .before .before .loop .inv .3 .kept))
 
--- src/lib.rt:93:9
 send-requires : tie.Need-send-requires Inv-loop μ-loop
 send-requires c κs = omega (arith, room-known (c .before .before .before .before .before .before .before .before .before .before .before .loop .inv .3) .1, c .before .before .before .before .before .before .before .before .before .if1 .left)
 
--- src/lib.rt:96:9
 add-i : tie.Need-add-i Inv-loop μ-loop
 add-i c = omega (arith, c .before .before .before .before .before .before .before .before .before .before .before .before .before .before .loop-test .taken, c .before .before .before .before .before .before .before .before .before .before .before .before .before .before .before .before .before .before .before .before .good .1 .1 .1 .0 .0)
 
--- src/lib.rt:83:5
 loop-less : tie.Need-loop-less Inv-loop μ-loop
 loop-less c = search needs
 
--- src/lib.rt:83:5
 loop-again : tie.Need-loop-again Inv-loop μ-loop
 loop-again c = (search needs, search needs, search needs, feeding-step _ _ _ _ _ (c .before .before .before .before .before .before .before .before .before .before .before .before .before .before .before .loop .inv .3) (search needs) refl (c .before .before .before .before .before .before .before .before .before .before .before .before .before .before .before .before .before .shared-slice-known .given _ .fits) (search needs) (c .before .before .before .before .before .before .before .before .before .step .ensures) (c .before .before .before .send .ensures .0) (c .before .before .before .send .ensures .1))
 
--- src/lib.rt:76:1
 same-length-4 : tie.Need-same-length-4 Inv-loop μ-loop
 same-length-4 c = search needs
 
--- src/lib.rt:76:1
 same-length-5 : tie.Need-same-length-5 Inv-loop μ-loop
 same-length-5 c = search needs
 
--- src/lib.rt:76:1
 same-length-6 : tie.Need-same-length-6 Inv-loop μ-loop
 same-length-6 c = search needs
 
--- src/lib.rt:76:1
 returns-2 : tie.Need-returns-2 Inv-loop μ-loop
 returns-2 c = feeding-end (c .before .loop .inv .3) (search needs)
 

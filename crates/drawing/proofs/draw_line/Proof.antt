@@ -3,34 +3,22 @@ use Rattle.outcome.proofs.Laws.{paints-done, done-with}
 use borrow.Author.Needs.{needs}
 use Rattle.drawing.proofs.draw_line.Statement.{statement}
 use Rattle.drawing.proofs.draw_line.Tie as tie
-use Rattle.drawing.proofs.draw_line.Reads as reads
-use Rattle.drawing.proofs.draw_line.Lts as lts
-use Rattle.drawing.proofs.ink.Reads as ink-reads
-use Rattle.drawing.proofs.with_drawing.Reads as with-drawing-reads
-use Rattle.line.proofs.draw_line.Reads as draw-line-reads
-use Rattle.outcome.proofs.done.Reads as done-reads
 
--- src/lib.rt:65:45
 ink-requires : tie.Need-ink-requires
 ink-requires c κs = search needs
 
--- src/lib.rt:65:5
 draw-line-requires : tie.Need-draw-line-requires
 draw-line-requires c κs = search needs
 
--- src/lib.rt:69:10
 with-drawing-requires : tie.Need-with-drawing-requires
 with-drawing-requires c κs = search needs
 
--- src/lib.rt:69:5
 done-requires : tie.Need-done-requires
 done-requires c κs = search needs
 
--- src/lib.rt:62:1
 same-length : tie.Need-same-length
 same-length c = search needs
 
--- src/lib.rt:62:1
 returns : tie.Need-returns
 returns c = paints-done _ (done-with (c .before .with-drawing .ensures) (c .done .ensures)) (λ s. line-is _ _ _ _ _ _ _ _ _ (c .before .before .before .before .before .before .ink .ensures) (c .before .before .before .before .before .draw-line .ensures))
 

@@ -3,43 +3,28 @@ use Rattle.outcome.proofs.Laws.{paints-refused, paints-done}
 use borrow.Author.Needs.{needs}
 use Rattle.drawing.proofs.fill_rectangle.Statement.{statement}
 use Rattle.drawing.proofs.fill_rectangle.Tie as tie
-use Rattle.drawing.proofs.fill_rectangle.Reads as reads
-use Rattle.drawing.proofs.fill_rectangle.Lts as lts
-use Rattle.canvas.proofs.Colour.from_byte.Reads as from-byte-reads
-use Rattle.drawing.proofs.is_ordered.Reads as is-ordered-reads
-use Rattle.outcome.proofs.done.Reads as done-reads
-use Rattle.outcome.proofs.refused.Reads as refused-reads
-use Rattle.rectangle.proofs.fill_rectangle.Reads as fill-rectangle-reads
 
--- src/lib.rt:95:9
 is-ordered-requires : tie.Need-is-ordered-requires
 is-ordered-requires c κs = search needs
 
--- src/lib.rt:96:9
 refused-requires : tie.Need-refused-requires
 refused-requires c κs = search needs
 
--- src/lib.rt:96:9
 returns : tie.Need-returns
 returns c = paints-refused 18 (c .refused .ensures) (λ s. solid-refused _ _ _ _ _ _ _ (c .before .before .is-ordered .ensures) (search needs))
 
--- src/lib.rt:98:55
 from-byte-requires : tie.Need-from-byte-requires
 from-byte-requires c κs = search needs
 
--- src/lib.rt:98:5
 fill-rectangle-requires : tie.Need-fill-rectangle-requires
 fill-rectangle-requires c κs = search needs
 
--- src/lib.rt:99:5
 done-requires : tie.Need-done-requires
 done-requires c κs = search needs
 
--- src/lib.rt:92:1
 same-length : tie.Need-same-length
 same-length c = search needs
 
--- src/lib.rt:92:1
 returns-2 : tie.Need-returns-2
 returns-2 c = paints-done _ (c .done .ensures) (λ s. solid-is _ _ _ _ _ _ _ _ _ _ _ (c .before .before .before .before .before .before .before .is-ordered .ensures) (search needs) (c .before .before .before .before .from-byte .ensures) (c .before .before .before .fill-rectangle .ensures))
 

@@ -2,14 +2,10 @@ use borrow.Author.Needs.{needs}
 use Rattle.drawing.proofs.Laws.{unordered-x, ordered-y}
 use Rattle.drawing.proofs.is_ordered.Statement.{statement}
 use Rattle.drawing.proofs.is_ordered.Tie as tie
-use Rattle.drawing.proofs.is_ordered.Reads as reads
-use Rattle.drawing.proofs.is_ordered.Lts as lts
 
--- src/lib.rt:77:9
 returns : tie.Need-returns
 returns c = unordered-x (c .before .args .x1) (c .before .args .y1) (c .before .args .x2) (c .before .args .y2) (search needs)
 
--- src/lib.rt:73:1
 returns-2 : tie.Need-returns-2
 returns-2 c = ordered-y (c .before .args .x1) (c .before .args .y1) (c .before .args .x2) (c .before .args .y2) (search needs)
 

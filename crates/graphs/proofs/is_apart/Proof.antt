@@ -2,14 +2,10 @@ use Rattle.graphs.proofs.Laws.{apart-not, apart-rows}
 use borrow.Author.Needs.{needs}
 use Rattle.graphs.proofs.is_apart.Statement.{statement}
 use Rattle.graphs.proofs.is_apart.Tie as tie
-use Rattle.graphs.proofs.is_apart.Reads as reads
-use Rattle.graphs.proofs.is_apart.Lts as lts
 
--- src/lib.rt:58:9
 returns : tie.Need-returns
 returns c = apart-not (c .before .args .x1) (c .before .args .y1) (c .before .args .x2) (c .before .args .y2) (search needs)
 
--- src/lib.rt:54:1
 returns-2 : tie.Need-returns-2
 returns-2 c = apart-rows (c .before .args .x1) (c .before .args .y1) (c .before .args .x2) (c .before .args .y2) (search needs)
 

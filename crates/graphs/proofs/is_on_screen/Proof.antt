@@ -2,22 +2,16 @@ use Rattle.graphs.proofs.Laws.{left-off, right-off, top-off, bottom-is}
 use borrow.Author.Needs.{needs}
 use Rattle.graphs.proofs.is_on_screen.Statement.{statement}
 use Rattle.graphs.proofs.is_on_screen.Tie as tie
-use Rattle.graphs.proofs.is_on_screen.Reads as reads
-use Rattle.graphs.proofs.is_on_screen.Lts as lts
 
--- src/lib.rt:42:9
 returns : tie.Need-returns
 returns c = left-off (c .before .args .height) (c .before .args .x1) (c .before .args .y1) (c .before .args .x2) (c .before .args .y2) (search needs)
 
--- src/lib.rt:45:9
 returns-2 : tie.Need-returns-2
 returns-2 c = right-off (c .before .before .args .height) (c .before .before .args .x1) (c .before .before .args .y1) (c .before .before .args .x2) (c .before .before .args .y2) (search needs) (search needs)
 
--- src/lib.rt:48:9
 returns-3 : tie.Need-returns-3
 returns-3 c = top-off (c .before .before .before .args .height) (c .before .before .before .args .x1) (c .before .before .before .args .y1) (c .before .before .before .args .x2) (c .before .before .before .args .y2) (search needs) (search needs) (search needs)
 
--- src/lib.rt:38:1
 returns-4 : tie.Need-returns-4
 returns-4 c = bottom-is (c .before .before .before .args .height) (c .before .before .before .args .x1) (c .before .before .before .args .y1) (c .before .before .before .args .x2) (c .before .before .before .args .y2) (search needs) (search needs) (search needs)
 

@@ -3,68 +3,46 @@ use Rattle.outcome.proofs.Laws.{on-refused, on-done, done-with}
 use borrow.Author.Needs.{needs}
 use Rattle.graphs.proofs.set_up_bar.Statement.{statement}
 use Rattle.graphs.proofs.set_up_bar.Tie as tie
-use Rattle.graphs.proofs.set_up_bar.Reads as reads
-use Rattle.graphs.proofs.set_up_bar.Lts as lts
-use Rattle.graphs.proofs.is_apart.Reads as is-apart-reads
-use Rattle.graphs.proofs.is_on_screen.Reads as is-on-screen-reads
-use Rattle.graphs.proofs.wide.Reads as wide-reads
-use Rattle.graphs.proofs.with_bar.Reads as with-bar-reads
-use Rattle.outcome.proofs.done.Reads as done-reads
-use Rattle.outcome.proofs.refused.Reads as refused-reads
 
--- src/lib.rt:90:9
 wide-requires : tie.Need-wide-requires
 wide-requires c κs = search needs
 
--- src/lib.rt:92:9
 refused-requires : tie.Need-refused-requires
 refused-requires c κs = search needs
 
--- src/lib.rt:92:9
 returns : tie.Need-returns
 returns c = on-refused 19 (c .refused .ensures) (λ g s t. bar-19 _ _ _ _ _ _ _ _ _ _ _ t (c .before .before .wide .ensures .0) (search needs))
 
--- src/lib.rt:95:9
 refused-requires-2 : tie.Need-refused-requires-2
 refused-requires-2 c κs = search needs
 
--- src/lib.rt:95:9
 returns-2 : tie.Need-returns-2
 returns-2 c = on-refused 20 (c .refused2 .ensures) (λ g s t. bar-20 _ _ _ _ _ _ _ _ _ _ _ t (c .before .before .before .wide .ensures .0) (search needs) (search needs))
 
--- src/lib.rt:97:9
 is-on-screen-requires : tie.Need-is-on-screen-requires
 is-on-screen-requires c κs = search needs
 
--- src/lib.rt:98:9
 refused-requires-3 : tie.Need-refused-requires-3
 refused-requires-3 c κs = search needs
 
--- src/lib.rt:98:9
 returns-3 : tie.Need-returns-3
 returns-3 c = on-refused 17 (c .refused3 .ensures) (λ g s t. bar-17 _ _ _ _ _ _ _ _ _ _ _ t (c .before .before .before .before .before .wide .ensures .0) _ (search needs) (search needs) (c .before .before .is-on-screen .ensures) (search needs))
 
--- src/lib.rt:100:9
 is-apart-requires : tie.Need-is-apart-requires
 is-apart-requires c κs = search needs
 
--- src/lib.rt:101:9
 refused-requires-4 : tie.Need-refused-requires-4
 refused-requires-4 c κs = search needs
 
--- src/lib.rt:101:9
 returns-4 : tie.Need-returns-4
 returns-4 c = on-refused 18 (c .refused4 .ensures) (λ g s t. bar-18 _ _ _ _ _ _ _ _ _ _ _ t (c .before .before .before .before .before .before .before .wide .ensures .0) _ _ (search needs) (search needs) (c .before .before .before .before .is-on-screen .ensures) (search needs) (c .before .before .is-apart .ensures) (search needs))
 
--- src/lib.rt:111:10
 with-bar-requires : tie.Need-with-bar-requires
 with-bar-requires c κs = search needs
 
--- src/lib.rt:111:5
 done-requires : tie.Need-done-requires
 done-requires c κs = search needs
 
--- src/lib.rt:87:1
 returns-5 : tie.Need-returns-5
 returns-5 c = on-done _ (done-with (c .before .with-bar .ensures) (c .done .ensures)) (λ g s t. bar-done _ _ _ _ _ _ _ _ _ _ _ t (c .before .before .before .before .before .before .before .before .wide .ensures .0) _ _ (search needs) (search needs) (c .before .before .before .before .before .is-on-screen .ensures) (search needs) (c .before .before .before .is-apart .ensures) (search needs))
 

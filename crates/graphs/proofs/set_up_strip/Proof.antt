@@ -3,60 +3,40 @@ use Rattle.outcome.proofs.Laws.{on-refused, on-done, done-with}
 use borrow.Author.Needs.{needs}
 use Rattle.graphs.proofs.set_up_strip.Statement.{statement}
 use Rattle.graphs.proofs.set_up_strip.Tie as tie
-use Rattle.graphs.proofs.set_up_strip.Reads as reads
-use Rattle.graphs.proofs.set_up_strip.Lts as lts
-use Rattle.graphs.proofs.is_apart.Reads as is-apart-reads
-use Rattle.graphs.proofs.is_on_screen.Reads as is-on-screen-reads
-use Rattle.graphs.proofs.wide.Reads as wide-reads
-use Rattle.graphs.proofs.with_strip.Reads as with-strip-reads
-use Rattle.outcome.proofs.done.Reads as done-reads
-use Rattle.outcome.proofs.refused.Reads as refused-reads
 
--- src/lib.rt:133:9
 wide-requires : tie.Need-wide-requires
 wide-requires c κs = search needs
 
--- src/lib.rt:135:9
 refused-requires : tie.Need-refused-requires
 refused-requires c κs = search needs
 
--- src/lib.rt:135:9
 returns : tie.Need-returns
 returns c = on-refused 19 (c .refused .ensures) (λ g s t. strip-19 _ _ _ _ _ _ 0 _ _ _ _ t (c .before .before .wide .ensures .0) (search needs))
 
--- src/lib.rt:137:9
 is-on-screen-requires : tie.Need-is-on-screen-requires
 is-on-screen-requires c κs = search needs
 
--- src/lib.rt:138:9
 refused-requires-2 : tie.Need-refused-requires-2
 refused-requires-2 c κs = search needs
 
--- src/lib.rt:138:9
 returns-2 : tie.Need-returns-2
 returns-2 c = on-refused 17 (c .refused2 .ensures) (λ g s t. strip-17 _ _ _ _ _ _ 0 _ _ _ _ t (c .before .before .before .before .wide .ensures .0) _ (search needs) (c .before .before .is-on-screen .ensures) (search needs))
 
--- src/lib.rt:140:9
 is-apart-requires : tie.Need-is-apart-requires
 is-apart-requires c κs = search needs
 
--- src/lib.rt:141:9
 refused-requires-3 : tie.Need-refused-requires-3
 refused-requires-3 c κs = search needs
 
--- src/lib.rt:141:9
 returns-3 : tie.Need-returns-3
 returns-3 c = on-refused 18 (c .refused3 .ensures) (λ g s t. strip-18 _ _ _ _ _ _ 0 _ _ _ _ t (c .before .before .before .before .before .before .wide .ensures .0) _ _ (search needs) (c .before .before .before .before .is-on-screen .ensures) (search needs) (c .before .before .is-apart .ensures) (search needs))
 
--- src/lib.rt:150:10
 with-strip-requires : tie.Need-with-strip-requires
 with-strip-requires c κs = search needs
 
--- src/lib.rt:150:5
 done-requires : tie.Need-done-requires
 done-requires c κs = search needs
 
--- src/lib.rt:130:1
 returns-4 : tie.Need-returns-4
 returns-4 c = on-done _ (done-with (c .before .with-strip .ensures) (c .done .ensures)) (λ g s t. strip-done _ _ _ _ _ _ 0 _ _ _ _ t (c .before .before .before .before .before .before .before .wide .ensures .0) _ _ (search needs) (c .before .before .before .before .before .is-on-screen .ensures) (search needs) (c .before .before .before .is-apart .ensures) (search needs))
 

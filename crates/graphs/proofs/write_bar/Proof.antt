@@ -4,59 +4,40 @@ use Rattle.outcome.proofs.Laws.{paints-refused, paints-done, done-with}
 use borrow.Author.Needs.{needs}
 use Rattle.graphs.proofs.write_bar.Statement.{statement}
 use Rattle.graphs.proofs.write_bar.Tie as tie
-use Rattle.graphs.proofs.write_bar.Reads as reads
-use Rattle.graphs.proofs.write_bar.Lts as lts
-use Rattle.bar_graph.proofs.write_bar.Reads as write-bar-reads
-use Rattle.graphs.proofs.wide.Reads as wide-reads
-use Rattle.graphs.proofs.with_bar.Reads as with-bar-reads
-use Rattle.outcome.proofs.done.Reads as done-reads
-use Rattle.outcome.proofs.refused.Reads as refused-reads
 
--- src/lib.rt:117:9
 wide-requires : tie.Need-wide-requires
 wide-requires c κs = search needs
 
--- src/lib.rt:119:9
 refused-requires : tie.Need-refused-requires
 refused-requires c κs = search needs
 
--- src/lib.rt:119:9
 returns : tie.Need-returns
 returns c = paints-refused 19 (c .refused .ensures) (λ s. write-19 _ _ _ _ _ _ (c .before .before .wide .ensures .0) (search needs))
 
--- src/lib.rt:122:16
 mul-slot : tie.Need-mul-slot
 mul-slot c = search needs
 
--- src/lib.rt:122:16
 element-copy-out-slot : tie.Need-element-copy-out-slot
 element-copy-out-slot c = search needs
 
--- src/lib.rt:124:9
 refused-requires-2 : tie.Need-refused-requires-2
 refused-requires-2 c κs = search needs
 
--- src/lib.rt:124:9
 returns-2 : tie.Need-returns-2
 returns-2 c = paints-refused 21 (c .refused2 .ensures) (λ s. write-21 _ _ _ _ _ _ (c .before .before .before .before .before .before .wide .ensures .0) (search needs) (search needs))
 
--- src/lib.rt:127:9
 write-bar-requires : tie.Need-write-bar-requires
 write-bar-requires c κs = search needs
 
--- src/lib.rt:128:10
 with-bar-requires : tie.Need-with-bar-requires
 with-bar-requires c κs = search needs
 
--- src/lib.rt:128:5
 done-requires : tie.Need-done-requires
 done-requires c κs = search needs
 
--- src/lib.rt:114:1
 same-length : tie.Need-same-length
 same-length c = search needs
 
--- src/lib.rt:114:1
 returns-3 : tie.Need-returns-3
 returns-3 c = paints-done _ (done-with (c .before .with-bar .ensures) (c .done .ensures)) (λ s. write-done _ _ _ _ _ _ (c .before .before .before .before .before .before .before .before .before .before .before .before .wide .ensures .0) _ _ (omega (arith, c .before .before .before .before .before .before .before .before .before .before .before .if1 .left)) (search needs) (c .before .before .before .before .write-bar .ensures .0) (c .before .before .before .before .write-bar .ensures .1))
 

@@ -2,23 +2,16 @@ use Rattle.interpreter.proofs.Phases.{other-code, later-argument, its-n
 use borrow.Author.Needs.{needs}
 use Rattle.interpreter.proofs.is_no_bitmap.Statement.{statement}
 use Rattle.interpreter.proofs.is_no_bitmap.Tie as tie
-use Rattle.interpreter.proofs.is_no_bitmap.Reads as reads
-use Rattle.interpreter.proofs.is_no_bitmap.Lts as lts
-use Rattle.storage.proofs.is_stored.Reads as is-stored-reads
 
--- src/lib.rt:115:9
 returns : tie.Need-returns
 returns c = other-code (c .before .before .args .store .now) (c .before .before .args .code) (c .before .before .args .got) (c .before .before .args .byte) (search needs)
 
--- src/lib.rt:118:9
 returns-2 : tie.Need-returns-2
 returns-2 c = later-argument (c .before .before .before .args .store .now) (c .before .before .before .args .code) (c .before .before .before .args .got) (c .before .before .before .args .byte) (search needs) (search needs)
 
--- src/lib.rt:120:6
 is-stored-requires : tie.Need-is-stored-requires
 is-stored-requires c κs = search needs
 
--- src/lib.rt:111:1
 returns-3 : tie.Need-returns-3
 returns-3 c = its-number (c .before .before .before .before .args .store .now) (c .before .before .before .before .args .code) (c .before .before .before .before .args .got) (c .before .before .before .before .args .byte) _ (search needs) (search needs) (c .is-stored .ensures)
 

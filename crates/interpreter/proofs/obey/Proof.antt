@@ -3,768 +3,553 @@ use Rattle.outcome.proofs.Laws.{came-refused}
 use borrow.Author.Needs.{needs}
 use Rattle.interpreter.proofs.obey.Statement.{statement}
 use Rattle.interpreter.proofs.obey.Tie as tie
-use Rattle.interpreter.proofs.obey.Reads as reads
-use Rattle.interpreter.proofs.obey.Lts as lts
-use Rattle.drawing.proofs.clear.Reads as clear-reads
-use Rattle.drawing.proofs.draw_frame.Reads as draw-frame-reads
-use Rattle.drawing.proofs.draw_line.Reads as draw-line-reads
-use Rattle.drawing.proofs.draw_pixel.Reads as draw-pixel-reads
-use Rattle.drawing.proofs.fill_rectangle.Reads as fill-rectangle-reads
-use Rattle.drawing.proofs.set_colour.Reads as set-colour-reads
-use Rattle.graphs.proofs.set_up_bar.Reads as set-up-bar-reads
-use Rattle.graphs.proofs.set_up_strip.Reads as set-up-strip-reads
-use Rattle.graphs.proofs.shift_strip.Reads as shift-strip-reads
-use Rattle.graphs.proofs.write_bar.Reads as write-bar-reads
-use Rattle.interpreter.proofs.size_of.Reads as size-of-reads
-use Rattle.outcome.proofs.refused.Reads as refused-reads
-use Rattle.pictures.proofs.begin_inline.Reads as begin-inline-reads
-use Rattle.pictures.proofs.show_bitmap.Reads as show-bitmap-reads
-use Rattle.settings.proofs.backlight_off.Reads as backlight-off-reads
-use Rattle.settings.proofs.backlight_on.Reads as backlight-on-reads
-use Rattle.settings.proofs.flow_off.Reads as flow-off-reads
-use Rattle.settings.proofs.flow_on.Reads as flow-on-reads
-use Rattle.settings.proofs.set_contrast.Reads as set-contrast-reads
-use Rattle.settings.proofs.set_serial.Reads as set-serial-reads
-use Rattle.storage.proofs.begin_upload.Reads as begin-upload-reads
-use Rattle.storage.proofs.delete_file.Reads as delete-file-reads
-use Rattle.storage.proofs.purge.Reads as purge-reads
-use Rattle.text.proofs.choose_font.Reads as choose-font-reads
-use Rattle.text.proofs.home.Reads as home-reads
-use Rattle.text.proofs.set_metrics.Reads as set-metrics-reads
-use Rattle.text.proofs.set_place.Reads as set-place-reads
-use Rattle.text.proofs.set_point.Reads as set-point-reads
-use Rattle.text.proofs.set_scroll.Reads as set-scroll-reads
-use Rattle.text.proofs.set_wrap.Reads as set-wrap-reads
 
--- src/lib.rt:49:29
 enum-told : tie.Need-enum-told
 enum-told c = search needs
 
--- src/lib.rt:49:29
 refused-requires : tie.Need-refused-requires
 refused-requires c κs = search needs
 
--- src/lib.rt:50:42
 enum-told-2 : tie.Need-enum-told-2
 enum-told-2 c = search needs
 
--- src/lib.rt:50:27
 clear-requires : tie.Need-clear-requires
 clear-requires c κs = search needs
 
--- src/lib.rt:51:26
 enum-told-3 : tie.Need-enum-told-3
 enum-told-3 c = search needs
 
--- src/lib.rt:51:26
 home-requires : tie.Need-home-requires
 home-requires c κs = search needs
 
--- src/lib.rt:52:53
 enum-told-4 : tie.Need-enum-told-4
 enum-told-4 c = search needs
 
--- src/lib.rt:52:53
 array-read-set-point : tie.Need-array-read-set-point
 array-read-set-point c = search needs
 
--- src/lib.rt:52:59
 array-read-set-point-2 : tie.Need-array-read-set-point-2
 array-read-set-point-2 c = search needs
 
--- src/lib.rt:52:30
 set-point-requires : tie.Need-set-point-requires
 set-point-requires c κs = search needs
 
--- src/lib.rt:53:46
 enum-told-5 : tie.Need-enum-told-5
 enum-told-5 c = search needs
 
--- src/lib.rt:53:68
 array-read-set-place : tie.Need-array-read-set-place
 array-read-set-place c = search needs
 
--- src/lib.rt:53:74
 array-read-set-place-2 : tie.Need-array-read-set-place-2
 array-read-set-place-2 c = search needs
 
--- src/lib.rt:53:30
 set-place-requires : tie.Need-set-place-requires
 set-place-requires c κs = search needs
 
--- src/lib.rt:54:28
 enum-told-6 : tie.Need-enum-told-6
 enum-told-6 c = search needs
 
--- src/lib.rt:54:28
 set-wrap-requires : tie.Need-set-wrap-requires
 set-wrap-requires c κs = search needs
 
--- src/lib.rt:55:29
 enum-told-7 : tie.Need-enum-told-7
 enum-told-7 c = search needs
 
--- src/lib.rt:55:29
 set-wrap-requires-2 : tie.Need-set-wrap-requires-2
 set-wrap-requires-2 c κs = search needs
 
--- src/lib.rt:56:30
 enum-told-8 : tie.Need-enum-told-8
 enum-told-8 c = search needs
 
--- src/lib.rt:56:30
 set-scroll-requires : tie.Need-set-scroll-requires
 set-scroll-requires c κs = search needs
 
--- src/lib.rt:57:31
 enum-told-9 : tie.Need-enum-told-9
 enum-told-9 c = search needs
 
--- src/lib.rt:57:31
 set-scroll-requires-2 : tie.Need-set-scroll-requires-2
 set-scroll-requires-2 c κs = search needs
 
--- src/lib.rt:58:50
 enum-told-10 : tie.Need-enum-told-10
 enum-told-10 c = search needs
 
--- src/lib.rt:58:72
 array-read-choose-font : tie.Need-array-read-choose-font
 array-read-choose-font c = search needs
 
--- src/lib.rt:58:32
 choose-font-requires : tie.Need-choose-font-requires
 choose-font-requires c κs = search needs
 
--- src/lib.rt:59:57
 enum-told-11 : tie.Need-enum-told-11
 enum-told-11 c = search needs
 
--- src/lib.rt:59:57
 array-read-set-metrics : tie.Need-array-read-set-metrics
 array-read-set-metrics c = search needs
 
--- src/lib.rt:59:63
 array-read-set-metrics-2 : tie.Need-array-read-set-metrics-2
 array-read-set-metrics-2 c = search needs
 
--- src/lib.rt:59:69
 array-read-set-metrics-3 : tie.Need-array-read-set-metrics-3
 array-read-set-metrics-3 c = search needs
 
--- src/lib.rt:59:75
 array-read-set-metrics-4 : tie.Need-array-read-set-metrics-4
 array-read-set-metrics-4 c = search needs
 
--- src/lib.rt:59:81
 array-read-set-metrics-5 : tie.Need-array-read-set-metrics-5
 array-read-set-metrics-5 c = search needs
 
--- src/lib.rt:59:32
 set-metrics-requires : tie.Need-set-metrics-requires
 set-metrics-requires c κs = search needs
 
--- src/lib.rt:60:58
 enum-told-12 : tie.Need-enum-told-12
 enum-told-12 c = search needs
 
--- src/lib.rt:60:58
 array-read-set-colour : tie.Need-array-read-set-colour
 array-read-set-colour c = search needs
 
--- src/lib.rt:60:31
 set-colour-requires : tie.Need-set-colour-requires
 set-colour-requires c κs = search needs
 
--- src/lib.rt:61:51
 enum-told-13 : tie.Need-enum-told-13
 enum-told-13 c = search needs
 
--- src/lib.rt:61:66
 array-read-draw-pixel : tie.Need-array-read-draw-pixel
 array-read-draw-pixel c = search needs
 
--- src/lib.rt:61:72
 array-read-draw-pixel-2 : tie.Need-array-read-draw-pixel-2
 array-read-draw-pixel-2 c = search needs
 
--- src/lib.rt:61:31
 draw-pixel-requires : tie.Need-draw-pixel-requires
 draw-pixel-requires c κs = search needs
 
--- src/lib.rt:62:49
 enum-told-14 : tie.Need-enum-told-14
 enum-told-14 c = search needs
 
--- src/lib.rt:62:64
 array-read-draw-line : tie.Need-array-read-draw-line
 array-read-draw-line c = search needs
 
--- src/lib.rt:62:70
 array-read-draw-line-2 : tie.Need-array-read-draw-line-2
 array-read-draw-line-2 c = search needs
 
--- src/lib.rt:62:76
 array-read-draw-line-3 : tie.Need-array-read-draw-line-3
 array-read-draw-line-3 c = search needs
 
--- src/lib.rt:62:82
 array-read-draw-line-4 : tie.Need-array-read-draw-line-4
 array-read-draw-line-4 c = search needs
 
--- src/lib.rt:62:30
 draw-line-requires : tie.Need-draw-line-requires
 draw-line-requires c κs = search needs
 
--- src/lib.rt:64:17
 enum-told-15 : tie.Need-enum-told-15
 enum-told-15 c = search needs
 
--- src/lib.rt:65:63
 array-read-draw-line-5 : tie.Need-array-read-draw-line-5
 array-read-draw-line-5 c = search needs
 
--- src/lib.rt:65:69
 array-read-draw-line-6 : tie.Need-array-read-draw-line-6
 array-read-draw-line-6 c = search needs
 
--- src/lib.rt:65:13
 draw-line-requires-2 : tie.Need-draw-line-requires-2
 draw-line-requires-2 c κs = search needs
 
--- src/lib.rt:67:51
 enum-told-16 : tie.Need-enum-told-16
 enum-told-16 c = search needs
 
--- src/lib.rt:67:66
 array-read-draw-frame : tie.Need-array-read-draw-frame
 array-read-draw-frame c = search needs
 
--- src/lib.rt:67:72
 array-read-draw-frame-2 : tie.Need-array-read-draw-frame-2
 array-read-draw-frame-2 c = search needs
 
--- src/lib.rt:67:78
 array-read-draw-frame-3 : tie.Need-array-read-draw-frame-3
 array-read-draw-frame-3 c = search needs
 
--- src/lib.rt:67:84
 array-read-draw-frame-4 : tie.Need-array-read-draw-frame-4
 array-read-draw-frame-4 c = search needs
 
--- src/lib.rt:67:90
 array-read-draw-frame-5 : tie.Need-array-read-draw-frame-5
 array-read-draw-frame-5 c = search needs
 
--- src/lib.rt:67:31
 draw-frame-requires : tie.Need-draw-frame-requires
 draw-frame-requires c κs = search needs
 
--- src/lib.rt:69:37
 enum-told-17 : tie.Need-enum-told-17
 enum-told-17 c = search needs
 
--- src/lib.rt:69:52
 array-read-fill-rectangle : tie.Need-array-read-fill-rectangle
 array-read-fill-rectangle c = search needs
 
--- src/lib.rt:69:58
 array-read-fill-rectangle-2 : tie.Need-array-read-fill-rectangle-2
 array-read-fill-rectangle-2 c = search needs
 
--- src/lib.rt:69:64
 array-read-fill-rectangle-3 : tie.Need-array-read-fill-rectangle-3
 array-read-fill-rectangle-3 c = search needs
 
--- src/lib.rt:69:70
 array-read-fill-rectangle-4 : tie.Need-array-read-fill-rectangle-4
 array-read-fill-rectangle-4 c = search needs
 
--- src/lib.rt:69:76
 array-read-fill-rectangle-5 : tie.Need-array-read-fill-rectangle-5
 array-read-fill-rectangle-5 c = search needs
 
--- src/lib.rt:69:13
 fill-rectangle-requires : tie.Need-fill-rectangle-requires
 fill-rectangle-requires c κs = search needs
 
--- src/lib.rt:72:47
 enum-told-18 : tie.Need-enum-told-18
 enum-told-18 c = search needs
 
--- src/lib.rt:72:47
 array-read-set-up-bar : tie.Need-array-read-set-up-bar
 array-read-set-up-bar c = search needs
 
--- src/lib.rt:72:53
 array-read-set-up-bar-2 : tie.Need-array-read-set-up-bar-2
 array-read-set-up-bar-2 c = search needs
 
--- src/lib.rt:72:59
 array-read-set-up-bar-3 : tie.Need-array-read-set-up-bar-3
 array-read-set-up-bar-3 c = search needs
 
--- src/lib.rt:72:65
 array-read-set-up-bar-4 : tie.Need-array-read-set-up-bar-4
 array-read-set-up-bar-4 c = search needs
 
--- src/lib.rt:72:71
 array-read-set-up-bar-5 : tie.Need-array-read-set-up-bar-5
 array-read-set-up-bar-5 c = search needs
 
--- src/lib.rt:72:77
 array-read-set-up-bar-6 : tie.Need-array-read-set-up-bar-6
 array-read-set-up-bar-6 c = search needs
 
--- src/lib.rt:72:13
 set-up-bar-requires : tie.Need-set-up-bar-requires
 set-up-bar-requires c κs = search needs
 
--- src/lib.rt:74:48
 enum-told-19 : tie.Need-enum-told-19
 enum-told-19 c = search needs
 
--- src/lib.rt:74:63
 array-read-write-bar : tie.Need-array-read-write-bar
 array-read-write-bar c = search needs
 
--- src/lib.rt:74:69
 array-read-write-bar-2 : tie.Need-array-read-write-bar-2
 array-read-write-bar-2 c = search needs
 
--- src/lib.rt:74:30
 write-bar-requires : tie.Need-write-bar-requires
 write-bar-requires c κs = search needs
 
--- src/lib.rt:75:68
 enum-told-20 : tie.Need-enum-told-20
 enum-told-20 c = search needs
 
--- src/lib.rt:75:68
 array-read-set-up-strip : tie.Need-array-read-set-up-strip
 array-read-set-up-strip c = search needs
 
--- src/lib.rt:75:74
 array-read-set-up-strip-2 : tie.Need-array-read-set-up-strip-2
 array-read-set-up-strip-2 c = search needs
 
--- src/lib.rt:75:80
 array-read-set-up-strip-3 : tie.Need-array-read-set-up-strip-3
 array-read-set-up-strip-3 c = search needs
 
--- src/lib.rt:75:86
 array-read-set-up-strip-4 : tie.Need-array-read-set-up-strip-4
 array-read-set-up-strip-4 c = search needs
 
--- src/lib.rt:75:92
 array-read-set-up-strip-5 : tie.Need-array-read-set-up-strip-5
 array-read-set-up-strip-5 c = search needs
 
--- src/lib.rt:75:32
 set-up-strip-requires : tie.Need-set-up-strip-requires
 set-up-strip-requires c κs = search needs
 
--- src/lib.rt:76:52
 enum-told-21 : tie.Need-enum-told-21
 enum-told-21 c = search needs
 
--- src/lib.rt:76:67
 array-read-shift-strip : tie.Need-array-read-shift-strip
 array-read-shift-strip c = search needs
 
--- src/lib.rt:76:32
 shift-strip-requires : tie.Need-shift-strip-requires
 shift-strip-requires c κs = search needs
 
--- src/lib.rt:77:54
 enum-told-22 : tie.Need-enum-told-22
 enum-told-22 c = search needs
 
--- src/lib.rt:77:76
 array-read-show-bitmap : tie.Need-array-read-show-bitmap
 array-read-show-bitmap c = search needs
 
--- src/lib.rt:77:82
 array-read-show-bitmap-2 : tie.Need-array-read-show-bitmap-2
 array-read-show-bitmap-2 c = search needs
 
--- src/lib.rt:77:88
 array-read-show-bitmap-3 : tie.Need-array-read-show-bitmap-3
 array-read-show-bitmap-3 c = search needs
 
--- src/lib.rt:77:32
 show-bitmap-requires : tie.Need-show-bitmap-requires
 show-bitmap-requires c κs = search needs
 
--- src/lib.rt:78:62
 enum-told-23 : tie.Need-enum-told-23
 enum-told-23 c = search needs
 
--- src/lib.rt:78:62
 array-read-begin-inline : tie.Need-array-read-begin-inline
 array-read-begin-inline c = search needs
 
--- src/lib.rt:78:68
 array-read-begin-inline-2 : tie.Need-array-read-begin-inline-2
 array-read-begin-inline-2 c = search needs
 
--- src/lib.rt:78:74
 array-read-begin-inline-3 : tie.Need-array-read-begin-inline-3
 array-read-begin-inline-3 c = search needs
 
--- src/lib.rt:78:80
 array-read-begin-inline-4 : tie.Need-array-read-begin-inline-4
 array-read-begin-inline-4 c = search needs
 
--- src/lib.rt:78:32
 begin-inline-requires : tie.Need-begin-inline-requires
 begin-inline-requires c κs = search needs
 
--- src/lib.rt:80:35
 enum-told-24 : tie.Need-enum-told-24
 enum-told-24 c = search needs
 
--- src/lib.rt:80:55
 array-read-begin-upload : tie.Need-array-read-begin-upload
 array-read-begin-upload c = search needs
 
--- src/lib.rt:80:69
 array-read-size-of : tie.Need-array-read-size-of
 array-read-size-of c = search needs
 
--- src/lib.rt:80:75
 array-read-size-of-2 : tie.Need-array-read-size-of-2
 array-read-size-of-2 c = search needs
 
--- src/lib.rt:80:61
 size-of-requires : tie.Need-size-of-requires
 size-of-requires c κs = search needs
 
--- src/lib.rt:80:13
 begin-upload-requires : tie.Need-begin-upload-requires
 begin-upload-requires c κs = search needs
 
--- src/lib.rt:83:35
 enum-told-25 : tie.Need-enum-told-25
 enum-told-25 c = search needs
 
--- src/lib.rt:83:57
 array-read-begin-upload-2 : tie.Need-array-read-begin-upload-2
 array-read-begin-upload-2 c = search needs
 
--- src/lib.rt:83:71
 array-read-size-of-3 : tie.Need-array-read-size-of-3
 array-read-size-of-3 c = search needs
 
--- src/lib.rt:83:77
 array-read-size-of-4 : tie.Need-array-read-size-of-4
 array-read-size-of-4 c = search needs
 
--- src/lib.rt:83:63
 size-of-requires-2 : tie.Need-size-of-requires-2
 size-of-requires-2 c κs = search needs
 
--- src/lib.rt:83:13
 begin-upload-requires-2 : tie.Need-begin-upload-requires-2
 begin-upload-requires-2 c κs = search needs
 
--- src/lib.rt:85:53
 enum-told-26 : tie.Need-enum-told-26
 enum-told-26 c = search needs
 
--- src/lib.rt:85:67
 array-read-delete-file : tie.Need-array-read-delete-file
 array-read-delete-file c = search needs
 
--- src/lib.rt:85:73
 array-read-delete-file-2 : tie.Need-array-read-delete-file-2
 array-read-delete-file-2 c = search needs
 
--- src/lib.rt:85:32
 delete-file-requires : tie.Need-delete-file-requires
 delete-file-requires c κs = search needs
 
--- src/lib.rt:86:42
 enum-told-27 : tie.Need-enum-told-27
 enum-told-27 c = search needs
 
--- src/lib.rt:86:64
 array-read-purge : tie.Need-array-read-purge
 array-read-purge c = search needs
 
--- src/lib.rt:86:70
 array-read-purge-2 : tie.Need-array-read-purge-2
 array-read-purge-2 c = search needs
 
--- src/lib.rt:86:27
 purge-requires : tie.Need-purge-requires
 purge-requires c κs = search needs
 
--- src/lib.rt:87:53
 enum-told-28 : tie.Need-enum-told-28
 enum-told-28 c = search needs
 
--- src/lib.rt:87:53
 array-read-flow-on : tie.Need-array-read-flow-on
 array-read-flow-on c = search needs
 
--- src/lib.rt:87:59
 array-read-flow-on-2 : tie.Need-array-read-flow-on-2
 array-read-flow-on-2 c = search needs
 
--- src/lib.rt:87:28
 flow-on-requires : tie.Need-flow-on-requires
 flow-on-requires c κs = search needs
 
--- src/lib.rt:88:29
 enum-told-29 : tie.Need-enum-told-29
 enum-told-29 c = search needs
 
--- src/lib.rt:88:29
 flow-off-requires : tie.Need-flow-off-requires
 flow-off-requires c κs = search needs
 
--- src/lib.rt:89:63
 enum-told-30 : tie.Need-enum-told-30
 enum-told-30 c = search needs
 
--- src/lib.rt:89:63
 array-read-set-contrast : tie.Need-array-read-set-contrast
 array-read-set-contrast c = search needs
 
--- src/lib.rt:89:33
 set-contrast-requires : tie.Need-set-contrast-requires
 set-contrast-requires c κs = search needs
 
--- src/lib.rt:90:63
 enum-told-31 : tie.Need-enum-told-31
 enum-told-31 c = search needs
 
--- src/lib.rt:90:63
 array-read-backlight-on : tie.Need-array-read-backlight-on
 array-read-backlight-on c = search needs
 
--- src/lib.rt:90:33
 backlight-on-requires : tie.Need-backlight-on-requires
 backlight-on-requires c κs = search needs
 
--- src/lib.rt:91:34
 enum-told-32 : tie.Need-enum-told-32
 enum-told-32 c = search needs
 
--- src/lib.rt:91:34
 backlight-off-requires : tie.Need-backlight-off-requires
 backlight-off-requires c κs = search needs
 
--- src/lib.rt:92:59
 enum-told-33 : tie.Need-enum-told-33
 enum-told-33 c = search needs
 
--- src/lib.rt:92:59
 array-read-set-serial : tie.Need-array-read-set-serial
 array-read-set-serial c = search needs
 
--- src/lib.rt:92:65
 array-read-set-serial-2 : tie.Need-array-read-set-serial-2
 array-read-set-serial-2 c = search needs
 
--- src/lib.rt:92:31
 set-serial-requires : tie.Need-set-serial-requires
 set-serial-requires c κs = search needs
 
--- src/lib.rt:44:1
 returns : tie.Need-returns
 returns c = came-refused _ _ _ _ 16 _ (unknown-is _ _ _ (search needs)) (c .refused .ensures)
 
--- src/lib.rt:44:1
 same-length : tie.Need-same-length
 same-length c = search needs
 
--- src/lib.rt:44:1
 returns-2 : tie.Need-returns-2
 returns-2 c = by-paints _ _ _ (c .before .before .clear .ensures) (clear-is _ _ _ (search needs))
 
--- src/lib.rt:44:1
 returns-3 : tie.Need-returns-3
 returns-3 c = by-sets _ _ _ (c .home .ensures) (home-is _ _ _ (search needs))
 
--- src/lib.rt:44:1
 returns-4 : tie.Need-returns-4
 returns-4 c = by-sets _ _ _ (c .set-point .ensures) (point-is _ _ _ (search needs))
 
--- src/lib.rt:44:1
 same-length-2 : tie.Need-same-length-2
 same-length-2 c = search needs
 
--- src/lib.rt:44:1
 returns-5 : tie.Need-returns-5
 returns-5 c = by-stores-on _ _ _ (c .set-place .ensures) (c .before .before .before .before .before .before .pre) (place-is _ _ _ (search needs))
 
--- src/lib.rt:44:1
 returns-6 : tie.Need-returns-6
 returns-6 c = by-sets _ _ _ (c .set-wrap .ensures) (wrap-on-is _ _ _ (search needs))
 
--- src/lib.rt:44:1
 returns-7 : tie.Need-returns-7
 returns-7 c = by-sets _ _ _ (c .set-wrap2 .ensures) (wrap-off-is _ _ _ (search needs))
 
--- src/lib.rt:44:1
 returns-8 : tie.Need-returns-8
 returns-8 c = by-sets _ _ _ (c .set-scroll .ensures) (scroll-on-is _ _ _ (search needs))
 
--- src/lib.rt:44:1
 returns-9 : tie.Need-returns-9
 returns-9 c = by-sets _ _ _ (c .set-scroll2 .ensures) (scroll-off-is _ _ _ (search needs))
 
--- src/lib.rt:44:1
 same-length-3 : tie.Need-same-length-3
 same-length-3 c = search needs
 
--- src/lib.rt:44:1
 returns-10 : tie.Need-returns-10
 returns-10 c = by-stores-on _ _ _ (c .choose-font .ensures) (c .before .before .before .before .before .before .pre) (font-is _ _ _ (search needs))
 
--- src/lib.rt:44:1
 returns-11 : tie.Need-returns-11
 returns-11 c = by-sets _ _ _ (c .set-metrics .ensures) (metrics-is _ _ _ (search needs))
 
--- src/lib.rt:44:1
 returns-12 : tie.Need-returns-12
 returns-12 c = by-sets _ _ _ (c .set-colour .ensures) (colour-is _ _ _ (search needs))
 
--- src/lib.rt:44:1
 same-length-4 : tie.Need-same-length-4
 same-length-4 c = search needs
 
--- src/lib.rt:44:1
 returns-13 : tie.Need-returns-13
 returns-13 c = by-paints _ _ _ (c .before .before .draw-pixel .ensures) (pixel-is _ _ _ (search needs))
 
--- src/lib.rt:44:1
 same-length-5 : tie.Need-same-length-5
 same-length-5 c = search needs
 
--- src/lib.rt:44:1
 returns-14 : tie.Need-returns-14
 returns-14 c = by-paints _ _ _ (c .before .before .draw-line .ensures) (line-is _ _ _ (search needs))
 
--- src/lib.rt:44:1
 same-length-6 : tie.Need-same-length-6
 same-length-6 c = search needs
 
--- src/lib.rt:44:1
 returns-15 : tie.Need-returns-15
 returns-15 c = by-paints _ _ _ (c .before .before .draw-line2 .ensures) (continue-is _ _ _ (search needs))
 
--- src/lib.rt:44:1
 same-length-7 : tie.Need-same-length-7
 same-length-7 c = search needs
 
--- src/lib.rt:44:1
 returns-16 : tie.Need-returns-16
 returns-16 c = by-paints _ _ _ (c .before .before .draw-frame .ensures) (frame-is _ _ _ (search needs))
 
--- src/lib.rt:44:1
 same-length-8 : tie.Need-same-length-8
 same-length-8 c = search needs
 
--- src/lib.rt:44:1
 returns-17 : tie.Need-returns-17
 returns-17 c = by-paints _ _ _ (c .before .before .fill-rectangle .ensures) (solid-is _ _ _ (search needs))
 
--- src/lib.rt:44:1
 returns-18 : tie.Need-returns-18
 returns-18 c = by-sets-on _ _ _ (c .set-up-bar .ensures) (c .before .before .before .before .before .pre) (bar-is _ _ _ (search needs))
 
--- src/lib.rt:44:1
 same-length-9 : tie.Need-same-length-9
 same-length-9 c = search needs
 
--- src/lib.rt:44:1
 returns-19 : tie.Need-returns-19
 returns-19 c = by-paints _ _ _ (c .before .before .write-bar .ensures) (write-is _ _ _ (search needs))
 
--- src/lib.rt:44:1
 returns-20 : tie.Need-returns-20
 returns-20 c = by-sets-on _ _ _ (c .set-up-strip .ensures) (c .before .before .before .before .before .pre) (strip-is _ _ _ (search needs))
 
--- src/lib.rt:44:1
 same-length-10 : tie.Need-same-length-10
 same-length-10 c = search needs
 
--- src/lib.rt:44:1
 returns-21 : tie.Need-returns-21
 returns-21 c = by-paints _ _ _ (c .before .before .shift-strip .ensures) (shift-is _ _ _ (search needs))
 
--- src/lib.rt:44:1
 same-length-11 : tie.Need-same-length-11
 same-length-11 c = search needs
 
--- src/lib.rt:44:1
 same-length-12 : tie.Need-same-length-12
 same-length-12 c = search needs
 
--- src/lib.rt:44:1
 returns-22 : tie.Need-returns-22
 returns-22 c = by-shows _ _ _ (c .before .before .show-bitmap .ensures) (bitmap-is _ _ _ (search needs))
 
--- src/lib.rt:44:1
 returns-23 : tie.Need-returns-23
 returns-23 c = by-sets _ _ _ (c .begin-inline .ensures) (inline-is _ _ _ (search needs))
 
--- src/lib.rt:44:1
 same-length-13 : tie.Need-same-length-13
 same-length-13 c = search needs
 
--- src/lib.rt:44:1
 returns-24 : tie.Need-returns-24
 returns-24 c = by-stores _ _ _ (c .begin-upload .ensures) (upload-font-is _ _ _ _ (search needs) (c .before .size-of .ensures))
 
--- src/lib.rt:44:1
 same-length-14 : tie.Need-same-length-14
 same-length-14 c = search needs
 
--- src/lib.rt:44:1
 returns-25 : tie.Need-returns-25
 returns-25 c = by-stores _ _ _ (c .begin-upload2 .ensures) (upload-bitmap-is _ _ _ _ (search needs) (c .before .size-of2 .ensures))
 
--- src/lib.rt:44:1
 same-length-15 : tie.Need-same-length-15
 same-length-15 c = search needs
 
--- src/lib.rt:44:1
 returns-26 : tie.Need-returns-26
 returns-26 c = by-stores _ _ _ (c .before .before .delete-file .ensures) (delete-is _ _ _ (search needs))
 
--- src/lib.rt:44:1
 same-length-16 : tie.Need-same-length-16
 same-length-16 c = search needs
 
--- src/lib.rt:44:1
 returns-27 : tie.Need-returns-27
 returns-27 c = by-stores-on _ _ _ (c .before .before .purge .ensures) (c .before .before .before .before .before .before .before .before .pre) (purge-is _ _ _ (search needs))
 
--- src/lib.rt:44:1
 returns-28 : tie.Need-returns-28
 returns-28 c = by-sets _ _ _ (c .flow-on .ensures) (flow-on-is _ _ _ (search needs))
 
--- src/lib.rt:44:1
 returns-29 : tie.Need-returns-29
 returns-29 c = by-sets _ _ _ (c .flow-off .ensures) (flow-off-is _ _ _ (search needs))
 
--- src/lib.rt:44:1
 returns-30 : tie.Need-returns-30
 returns-30 c = by-sets _ _ _ (c .set-contrast .ensures) (contrast-is _ _ _ (search needs))
 
--- src/lib.rt:44:1
 returns-31 : tie.Need-returns-31
 returns-31 c = by-sets _ _ _ (c .backlight-on .ensures) (backlight-on-is _ _ _ (search needs))
 
--- src/lib.rt:44:1
 returns-32 : tie.Need-returns-32
 returns-32 c = by-sets _ _ _ (c .backlight-off .ensures) (backlight-off-is _ _ _ (search needs))
 
--- src/lib.rt:44:1
 returns-33 : tie.Need-returns-33
 returns-33 c = by-sets _ _ _ (c .set-serial .ensures) (serial-is _ _ _ (search needs))
 

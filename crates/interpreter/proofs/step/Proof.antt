@@ -3,103 +3,73 @@ use Rattle.interpreter.proofs.Commands.{by-paints, by-stores}
 use borrow.Author.Needs.{needs}
 use Rattle.interpreter.proofs.step.Statement.{statement}
 use Rattle.interpreter.proofs.step.Tie as tie
-use Rattle.interpreter.proofs.step.Reads as reads
-use Rattle.interpreter.proofs.step.Lts as lts
-use Rattle.interpreter.proofs.take_alone.Reads as take-alone-reads
-use Rattle.interpreter.proofs.take_argument.Reads as take-argument-reads
-use Rattle.interpreter.proofs.take_code.Reads as take-code-reads
-use Rattle.pictures.proofs.inline_data.Reads as inline-data-reads
-use Rattle.storage.proofs.upload_data.Reads as upload-data-reads
 
--- src/lib.rt:190:35
 enum-told : tie.Need-enum-told
 enum-told c = search needs
 
--- src/lib.rt:190:24
 take-alone-requires : tie.Need-take-alone-requires
 take-alone-requires c κs = search needs
 
--- src/lib.rt:191:36
 enum-told-2 : tie.Need-enum-told-2
 enum-told-2 c = search needs
 
--- src/lib.rt:191:26
 take-code-requires : tie.Need-take-code-requires
 take-code-requires c κs = search needs
 
--- src/lib.rt:192:28
 enum-known-phase : tie.Need-enum-known-phase
 enum-known-phase c = search needs
 
--- src/lib.rt:193:13
 take-argument-requires : tie.Need-take-argument-requires
 take-argument-requires c κs = (search needs, sound-gathering _ _ _ (c .before .before .before .phase .given .1) (c .before .before .before .before .before .before .before .before .pre .1))
 
--- src/lib.rt:196:13
 enum-known-phase-2 : tie.Need-enum-known-phase-2
 enum-known-phase-2 c = search needs
 
--- src/lib.rt:201:14
 inline-data-requires : tie.Need-inline-data-requires
 inline-data-requires c κs = sound-inline _ _ _ _ _ _ (c .before .before .phase2 .given .1) (c .before .before .before .before .before .before .before .pre .1)
 
--- src/lib.rt:203:13
 enum-known-phase-3 : tie.Need-enum-known-phase-3
 enum-known-phase-3 c = search needs
 
--- src/lib.rt:209:14
 upload-data-requires : tie.Need-upload-data-requires
 upload-data-requires c κs = sound-upload _ _ _ _ _ _ _ (c .before .before .phase3 .given .1) (c .before .before .before .before .before .before .before .pre .1)
 
--- src/lib.rt:183:1
 same-length : tie.Need-same-length
 same-length c = search needs
 
--- src/lib.rt:183:1
 same-length-2 : tie.Need-same-length-2
 same-length-2 c = search needs
 
--- src/lib.rt:183:1
 returns : tie.Need-returns
 returns c = came-as (in-idle _ _ (search needs)) (c .before .before .take-alone .ensures)
 
--- src/lib.rt:183:1
 same-length-3 : tie.Need-same-length-3
 same-length-3 c = search needs
 
--- src/lib.rt:183:1
 same-length-4 : tie.Need-same-length-4
 same-length-4 c = search needs
 
--- src/lib.rt:183:1
 returns-2 : tie.Need-returns-2
 returns-2 c = came-as (in-prefix _ _ (search needs)) (c .before .before .before .before .take-code .ensures)
 
--- src/lib.rt:183:1
 same-length-5 : tie.Need-same-length-5
 same-length-5 c = search needs
 
--- src/lib.rt:183:1
 same-length-6 : tie.Need-same-length-6
 same-length-6 c = search needs
 
--- src/lib.rt:183:1
 returns-3 : tie.Need-returns-3
 returns-3 c = came-as (in-gathering _ _ _ _ (c .before .before .before .before .before .before .before .before .phase .given .1)) (c .before .before .before .before .take-argument .ensures)
 
--- src/lib.rt:183:1
 same-length-7 : tie.Need-same-length-7
 same-length-7 c = search needs
 
--- src/lib.rt:183:1
 returns-4 : tie.Need-returns-4
 returns-4 c = by-paints _ _ _ (c .before .before .inline-data .ensures) (in-inline _ _ _ _ _ _ _ (c .before .before .before .before .before .phase2 .given .1))
 
--- src/lib.rt:183:1
 same-length-8 : tie.Need-same-length-8
 same-length-8 c = search needs
 
--- src/lib.rt:183:1
 returns-5 : tie.Need-returns-5
 returns-5 c = by-stores _ _ _ (c .before .before .upload-data .ensures) (in-upload _ _ _ _ _ _ _ _ (c .before .before .before .before .before .phase3 .given .1))
 

@@ -3,51 +3,34 @@ use Rattle.outcome.proofs.Laws.{came-done, done-with}
 use borrow.Author.Needs.{needs}
 use Rattle.interpreter.proofs.take_code.Statement.{statement}
 use Rattle.interpreter.proofs.take_code.Tie as tie
-use Rattle.interpreter.proofs.take_code.Reads as reads
-use Rattle.interpreter.proofs.take_code.Lts as lts
-use Rattle.interpreter.proofs.obey.Reads as obey-reads
-use Rattle.outcome.proofs.done.Reads as done-reads
-use Rattle.outcome.proofs.in_phase.Reads as in-phase-reads
-use Rattle.state.proofs.arguments_of.Reads as arguments-of-reads
-use Rattle.state.proofs.command_of.Reads as command-of-reads
 
--- src/lib.rt:101:9
 command-of-requires : tie.Need-command-of-requires
 command-of-requires c κs = search needs
 
--- src/lib.rt:102:8
 arguments-of-requires : tie.Need-arguments-of-requires
 arguments-of-requires c κs = search needs
 
--- src/lib.rt:103:13
 in-phase-requires : tie.Need-in-phase-requires
 in-phase-requires c κs = search needs
 
--- src/lib.rt:104:9
 obey-requires : tie.Need-obey-requires
 obey-requires c κs = search needs
 
--- src/lib.rt:104:9
 same-length : tie.Need-same-length
 same-length c = search needs
 
--- src/lib.rt:104:9
 same-length-2 : tie.Need-same-length-2
 same-length-2 c = search needs
 
--- src/lib.rt:104:9
 returns : tie.Need-returns
 returns c = code-obeyed _ _ _ _ _ _ (c .before .before .before .before .before .before .before .before .before .before .command-of .ensures) (c .before .before .before .before .before .before .before .before .before .arguments-of .ensures) _ _ _ (search needs) (c .before .before .before .before .before .before .before .in-phase .ensures) (c .before .before .before .before .obey .ensures)
 
--- src/lib.rt:106:10
 in-phase-requires-2 : tie.Need-in-phase-requires-2
 in-phase-requires-2 c κs = search needs
 
--- src/lib.rt:106:5
 done-requires : tie.Need-done-requires
 done-requires c κs = search needs
 
--- src/lib.rt:97:1
 returns-2 : tie.Need-returns-2
 returns-2 c = came-done _ _ _ _ _ _ (code-gathers _ _ _ _ _ _ (c .before .before .before .before .command-of .ensures) (c .before .before .before .arguments-of .ensures) (search needs)) (done-with (c .before .in-phase2 .ensures) (c .done .ensures))
 

@@ -3,34 +3,22 @@ use Rattle.outcome.proofs.Laws.{sets-refused, sets-done, done-with}
 use borrow.Author.Needs.{needs}
 use Rattle.pictures.proofs.begin_inline.Statement.{statement}
 use Rattle.pictures.proofs.begin_inline.Tie as tie
-use Rattle.pictures.proofs.begin_inline.Reads as reads
-use Rattle.pictures.proofs.begin_inline.Lts as lts
-use Rattle.drawing.proofs.is_ordered.Reads as is-ordered-reads
-use Rattle.outcome.proofs.done.Reads as done-reads
-use Rattle.outcome.proofs.in_phase.Reads as in-phase-reads
-use Rattle.outcome.proofs.refused.Reads as refused-reads
 
--- src/lib.rt:63:9
 is-ordered-requires : tie.Need-is-ordered-requires
 is-ordered-requires c κs = search needs
 
--- src/lib.rt:64:9
 refused-requires : tie.Need-refused-requires
 refused-requires c κs = search needs
 
--- src/lib.rt:64:9
 returns : tie.Need-returns
 returns c = sets-refused 18 (c .refused .ensures) (λ g s. inline-18 _ _ _ _ _ _ (c .before .before .is-ordered .ensures) (search needs))
 
--- src/lib.rt:66:10
 in-phase-requires : tie.Need-in-phase-requires
 in-phase-requires c κs = search needs
 
--- src/lib.rt:66:5
 done-requires : tie.Need-done-requires
 done-requires c κs = search needs
 
--- src/lib.rt:60:1
 returns-2 : tie.Need-returns-2
 returns-2 c = sets-done _ (done-with (c .before .in-phase .ensures) (c .done .ensures)) (λ g s. inline-done _ _ _ _ _ _ _ _ (c .before .before .before .is-ordered .ensures) (search needs))
 

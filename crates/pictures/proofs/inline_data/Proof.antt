@@ -4,58 +4,40 @@ use native.Mathlib.Omega.{arith}
 use borrow.Author.Needs.{needs}
 use Rattle.pictures.proofs.inline_data.Statement.{statement}
 use Rattle.pictures.proofs.inline_data.Tie as tie
-use Rattle.pictures.proofs.inline_data.Reads as reads
-use Rattle.pictures.proofs.inline_data.Lts as lts
-use Rattle.bitmap.proofs.paint_inline.Reads as paint-inline-reads
-use Rattle.outcome.proofs.done.Reads as done-reads
-use Rattle.outcome.proofs.in_phase.Reads as in-phase-reads
-use Rattle.state.proofs.inline_bytes.Reads as inline-bytes-reads
 
--- src/lib.rt:80:5
 paint-inline-requires : tie.Need-paint-inline-requires
 paint-inline-requires c κs = search needs
 
--- src/lib.rt:81:9
 inline-bytes-requires : tie.Need-inline-bytes-requires
 inline-bytes-requires c κs = (coming _ _ _ _ _ (c .before .before .before .before .before .pre) .columns, coming _ _ _ _ _ (c .before .before .before .before .before .pre) .rows)
 
--- src/lib.rt:82:8
 add-if1 : tie.Need-add-if1
 add-if1 c = omega (arith, coming (c .before .before .before .before .before .before .args .x1) (c .before .before .before .before .before .before .args .y1) (c .before .before .before .before .before .before .args .x2) (c .before .before .before .before .before .before .args .y2) (c .before .before .before .before .before .before .args .came) (c .before .before .before .before .before .before .pre) .left, c .inline-bytes .ensures)
 
--- src/lib.rt:88:19
 add-t16 : tie.Need-add-t16
 add-t16 c = search needs
 
--- src/lib.rt:83:21
 in-phase-requires : tie.Need-in-phase-requires
 in-phase-requires c κs = search needs
 
--- src/lib.rt:83:9
 done-requires : tie.Need-done-requires
 done-requires c κs = search needs
 
--- src/lib.rt:83:9
 same-length : tie.Need-same-length
 same-length c = search needs
 
--- src/lib.rt:83:9
 returns : tie.Need-returns
 returns c = paints-done _ (done-with (c .before .in-phase .ensures) (c .done .ensures)) (λ s. data-more _ _ _ _ _ _ _ _ _ _ _ (c .before .before .before .before .before .before .paint-inline .ensures) (c .before .before .before .inline-bytes .ensures) (search needs))
 
--- src/lib.rt:91:10
 in-phase-requires-2 : tie.Need-in-phase-requires-2
 in-phase-requires-2 c κs = search needs
 
--- src/lib.rt:91:5
 done-requires-2 : tie.Need-done-requires-2
 done-requires-2 c κs = search needs
 
--- src/lib.rt:76:1
 same-length-2 : tie.Need-same-length-2
 same-length-2 c = search needs
 
--- src/lib.rt:76:1
 returns-2 : tie.Need-returns-2
 returns-2 c = paints-done _ (done-with (c .before .in-phase2 .ensures) (c .done2 .ensures)) (λ s. data-last _ _ _ _ _ _ _ _ _ _ _ (c .before .before .before .before .before .before .paint-inline .ensures) (c .before .before .before .inline-bytes .ensures) (search needs))
 

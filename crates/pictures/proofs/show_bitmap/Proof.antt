@@ -3,46 +3,31 @@ use Rattle.outcome.proofs.Laws.{shows-refused}
 use borrow.Author.Needs.{needs}
 use Rattle.pictures.proofs.show_bitmap.Statement.{statement}
 use Rattle.pictures.proofs.show_bitmap.Tie as tie
-use Rattle.pictures.proofs.show_bitmap.Reads as reads
-use Rattle.pictures.proofs.show_bitmap.Lts as lts
-use Rattle.directory.proofs.find.Reads as find-reads
-use Rattle.directory.proofs.part.Reads as part-reads
-use Rattle.outcome.proofs.refused.Reads as refused-reads
-use Rattle.pictures.proofs.show_file.Reads as show-file-reads
 
--- src/lib.rt:47:9
 find-requires : tie.Need-find-requires
 find-requires c κs = search needs
 
--- src/lib.rt:50:9
 enum-known-found : tie.Need-enum-known-found
 enum-known-found c = search needs
 
--- src/lib.rt:54:9
 enum-told : tie.Need-enum-told
 enum-told c = search needs
 
--- src/lib.rt:54:9
 refused-requires : tie.Need-refused-requires
 refused-requires c κs = search needs
 
--- src/lib.rt:54:9
 returns : tie.Need-returns
 returns c = shows-refused 22 (c .refused .ensures) (show-22 _ _ _ _ _ (c .before .before .before .find .ensures) (search needs))
 
--- src/lib.rt:56:9
 part-requires : tie.Need-part-requires
 part-requires c κs = search needs
 
--- src/lib.rt:57:5
 show-file-requires : tie.Need-show-file-requires
 show-file-requires c κs = search needs
 
--- src/lib.rt:44:1
 same-length : tie.Need-same-length
 same-length c = search needs
 
--- src/lib.rt:44:1
 returns-2 : tie.Need-returns-2
 returns-2 c = shown _ _ _ _ (c .before .before .show-file .ensures) (show-found _ _ _ _ _ _ _ _ _ (c .before .before .before .before .before .before .before .before .find .ensures) (c .before .before .before .before .before .before .found .given .1) (c .before .before .before .before .part .ensures))
 

@@ -3,60 +3,40 @@ use Rattle.outcome.proofs.Laws.{paints-refused, paints-done}
 use borrow.Author.Needs.{needs}
 use Rattle.pictures.proofs.show_file.Statement.{statement}
 use Rattle.pictures.proofs.show_file.Tie as tie
-use Rattle.pictures.proofs.show_file.Reads as reads
-use Rattle.pictures.proofs.show_file.Lts as lts
-use Rattle.bitmap.proofs.paint_packed.Reads as paint-packed-reads
-use Rattle.directory.proofs.rest.Reads as rest-reads
-use Rattle.fonts.proofs.bitmap_height.Reads as bitmap-height-reads
-use Rattle.fonts.proofs.bitmap_width.Reads as bitmap-width-reads
-use Rattle.fonts.proofs.check_bitmap.Reads as check-bitmap-reads
-use Rattle.outcome.proofs.done.Reads as done-reads
-use Rattle.outcome.proofs.refused.Reads as refused-reads
 
--- src/lib.rt:35:9
 check-bitmap-requires : tie.Need-check-bitmap-requires
 check-bitmap-requires c κs = search needs
 
 enum-told : tie.Need-enum-told
 enum-told c = search needs
 
--- src/lib.rt:37:9
 enum-told-2 : tie.Need-enum-told-2
 enum-told-2 c = search needs
 
--- src/lib.rt:37:9
 refused-requires : tie.Need-refused-requires
 refused-requires c κs = search needs
 
--- src/lib.rt:37:9
 returns : tie.Need-returns
 returns c = paints-refused 23 (c .refused .ensures) (λ s. bitmap-23 _ _ _ _ _ _ _ (c .before .before .before .check-bitmap .ensures) (search needs))
 
--- src/lib.rt:39:9
 rest-requires : tie.Need-rest-requires
 rest-requires c κs = search needs
 
--- src/lib.rt:40:39
 bitmap-width-requires : tie.Need-bitmap-width-requires
 bitmap-width-requires c κs = search needs
 
--- src/lib.rt:40:59
 bitmap-height-requires : tie.Need-bitmap-height-requires
 bitmap-height-requires c κs = search needs
 
--- src/lib.rt:40:5
 paint-packed-requires : tie.Need-paint-packed-requires
 paint-packed-requires c κs = search needs
 
--- src/lib.rt:41:5
 done-requires : tie.Need-done-requires
 done-requires c κs = search needs
 
--- src/lib.rt:32:1
 same-length : tie.Need-same-length
 same-length c = search needs
 
--- src/lib.rt:32:1
 returns-2 : tie.Need-returns-2
 returns-2 c = paints-done _ (c .done .ensures) (λ s. bitmap-done _ _ _ _ _ _ _ (c .before .before .before .before .before .before .before .before .before .before .check-bitmap .ensures) _ _ _ _ (search needs) (c .before .before .before .before .before .before .before .rest .ensures) (c .before .before .before .before .before .bitmap-width .ensures) (c .before .before .before .before .bitmap-height .ensures) (c .before .before .before .paint-packed .ensures))
 

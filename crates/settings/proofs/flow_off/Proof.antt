@@ -3,20 +3,13 @@ use Rattle.outcome.proofs.Laws.{sets-done, done-with}
 use borrow.Author.Needs.{needs}
 use Rattle.settings.proofs.flow_off.Statement.{statement}
 use Rattle.settings.proofs.flow_off.Tie as tie
-use Rattle.settings.proofs.flow_off.Reads as reads
-use Rattle.settings.proofs.flow_off.Lts as lts
-use Rattle.outcome.proofs.done.Reads as done-reads
-use Rattle.outcome.proofs.with_port.Reads as with-port-reads
 
--- src/lib.rt:50:10
 with-port-requires : tie.Need-with-port-requires
 with-port-requires c κs = search needs
 
--- src/lib.rt:50:5
 done-requires : tie.Need-done-requires
 done-requires c κs = search needs
 
--- src/lib.rt:43:1
 returns : tie.Need-returns
 returns c = sets-done _ (done-with (c .before .with-port .ensures) (c .done .ensures)) (λ g s. flow-off-is _)
 

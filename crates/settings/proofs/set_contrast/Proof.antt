@@ -3,20 +3,13 @@ use Rattle.outcome.proofs.Laws.{sets-done, done-with}
 use borrow.Author.Needs.{needs}
 use Rattle.settings.proofs.set_contrast.Statement.{statement}
 use Rattle.settings.proofs.set_contrast.Tie as tie
-use Rattle.settings.proofs.set_contrast.Reads as reads
-use Rattle.settings.proofs.set_contrast.Lts as lts
-use Rattle.outcome.proofs.done.Reads as done-reads
-use Rattle.outcome.proofs.with_panel.Reads as with-panel-reads
 
--- src/lib.rt:58:10
 with-panel-requires : tie.Need-with-panel-requires
 with-panel-requires c κs = search needs
 
--- src/lib.rt:58:5
 done-requires : tie.Need-done-requires
 done-requires c κs = search needs
 
--- src/lib.rt:53:1
 returns : tie.Need-returns
 returns c = sets-done _ (done-with (c .before .with-panel .ensures) (c .done .ensures)) (λ g s. contrast-is _ _)
 

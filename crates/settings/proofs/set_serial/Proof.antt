@@ -4,37 +4,25 @@ use mathlib.Core.Path.{refl}
 use borrow.Author.Needs.{needs}
 use Rattle.settings.proofs.set_serial.Statement.{statement}
 use Rattle.settings.proofs.set_serial.Tie as tie
-use Rattle.settings.proofs.set_serial.Reads as reads
-use Rattle.settings.proofs.set_serial.Lts as lts
-use Rattle.outcome.proofs.sending.Reads as sending-reads
-use Rattle.outcome.proofs.two_bytes.Reads as two-bytes-reads
-use Rattle.outcome.proofs.with_panel.Reads as with-panel-reads
 
--- src/lib.rt:90:31
 two-bytes-requires : tie.Need-two-bytes-requires
 two-bytes-requires c κs = search needs
 
--- src/lib.rt:90:9
 sending-requires : tie.Need-sending-requires
 sending-requires c κs = search needs
 
--- src/lib.rt:90:9
 returns : tie.Need-returns
 returns c = sets-two _ _ _ (sending-with refl (c .before .two-bytes .ensures) (c .sending .ensures)) (λ g s. serial-kept _ _ _ (search needs))
 
--- src/lib.rt:99:13
 with-panel-requires : tie.Need-with-panel-requires
 with-panel-requires c κs = search needs
 
--- src/lib.rt:99:39
 two-bytes-requires-2 : tie.Need-two-bytes-requires-2
 two-bytes-requires-2 c κs = search needs
 
--- src/lib.rt:99:5
 sending-requires-2 : tie.Need-sending-requires-2
 sending-requires-2 c κs = search needs
 
--- src/lib.rt:85:1
 returns-2 : tie.Need-returns-2
 returns-2 c = sets-two _ _ _ (sending-with (c .before .before .with-panel .ensures) (c .before .two-bytes2 .ensures) (c .sending2 .ensures)) (λ g s. serial-stored _ _ _ (search needs))
 

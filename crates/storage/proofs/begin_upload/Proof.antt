@@ -3,52 +3,34 @@ use Rattle.outcome.proofs.Laws.{stores-telling, stores-one, sending-with}
 use borrow.Author.Needs.{needs}
 use Rattle.storage.proofs.begin_upload.Statement.{statement}
 use Rattle.storage.proofs.begin_upload.Tie as tie
-use Rattle.storage.proofs.begin_upload.Reads as reads
-use Rattle.storage.proofs.begin_upload.Lts as lts
-use Rattle.outcome.proofs.in_phase.Reads as in-phase-reads
-use Rattle.outcome.proofs.one_byte.Reads as one-byte-reads
-use Rattle.outcome.proofs.sending.Reads as sending-reads
-use Rattle.storage.proofs.is_in_use.Reads as is-in-use-reads
-use Rattle.storage.proofs.lacks_room.Reads as lacks-room-reads
-use Rattle.storage.proofs.telling.Reads as telling-reads
 
--- src/lib.rt:112:8
 is-in-use-requires : tie.Need-is-in-use-requires
 is-in-use-requires c κs = search needs
 
--- src/lib.rt:113:9
 telling-requires : tie.Need-telling-requires
 telling-requires c κs = search needs
 
--- src/lib.rt:113:9
 returns : tie.Need-returns
 returns c = stores-telling 25 8 (c .telling .ensures) (λ g. upload-25 _ _ _ _ _ _ _ (c .before .before .is-in-use .ensures) (search needs))
 
--- src/lib.rt:115:8
 lacks-room-requires : tie.Need-lacks-room-requires
 lacks-room-requires c κs = search needs
 
--- src/lib.rt:116:9
 telling-requires-2 : tie.Need-telling-requires-2
 telling-requires-2 c κs = search needs
 
--- src/lib.rt:116:9
 returns-2 : tie.Need-returns-2
 returns-2 c = stores-telling 24 8 (c .telling2 .ensures) (λ g. upload-24 _ _ _ _ _ _ _ _ (c .before .before .before .before .is-in-use .ensures) (search needs) (c .before .before .lacks-room .ensures) (search needs))
 
--- src/lib.rt:118:9
 in-phase-requires : tie.Need-in-phase-requires
 in-phase-requires c κs = search needs
 
--- src/lib.rt:129:19
 one-byte-requires : tie.Need-one-byte-requires
 one-byte-requires c κs = search needs
 
--- src/lib.rt:129:5
 sending-requires : tie.Need-sending-requires
 sending-requires c κs = search needs
 
--- src/lib.rt:109:1
 returns-3 : tie.Need-returns-3
 returns-3 c = stores-one _ _ (sending-with (c .before .before .in-phase .ensures) (c .before .one-byte .ensures) (c .sending .ensures)) (λ g. upload-done _ _ _ _ _ _ _ _ (c .before .before .before .before .before .before .is-in-use .ensures) (search needs) (c .before .before .before .before .lacks-room .ensures) (search needs))
 

@@ -2,27 +2,19 @@ use Rattle.storage.proofs.Laws.{other-kind, other-number, used-if-store
 use borrow.Author.Needs.{needs}
 use Rattle.storage.proofs.is_in_use.Statement.{statement}
 use Rattle.storage.proofs.is_in_use.Tie as tie
-use Rattle.storage.proofs.is_in_use.Reads as reads
-use Rattle.storage.proofs.is_in_use.Lts as lts
-use Rattle.storage.proofs.is_stored.Reads as is-stored-reads
 
--- src/lib.rt:72:9
 is-stored-requires : tie.Need-is-stored-requires
 is-stored-requires c κs = search needs
 
--- src/lib.rt:72:9
 returns : tie.Need-returns
 returns c = used-if-stored (c .before .before .before .args .store .now) (c .before .before .before .args .kind) (c .before .before .before .args .number) _ (other-kind _ _ (search needs)) (c .is-stored .ensures)
 
--- src/lib.rt:75:9
 is-stored-requires-2 : tie.Need-is-stored-requires-2
 is-stored-requires-2 c κs = search needs
 
--- src/lib.rt:75:9
 returns-2 : tie.Need-returns-2
 returns-2 c = used-if-stored (c .before .before .before .before .args .store .now) (c .before .before .before .before .args .kind) (c .before .before .before .before .args .number) _ (other-number _ _ (search needs) (search needs)) (c .is-stored2 .ensures)
 
--- src/lib.rt:68:1
 returns-3 : tie.Need-returns-3
 returns-3 c = built-in-used (c .before .before .before .args .store .now) (c .before .before .before .args .kind) (c .before .before .before .args .number) (search needs) (search needs)
 

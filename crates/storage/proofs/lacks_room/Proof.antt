@@ -2,28 +2,19 @@ use Rattle.storage.proofs.Laws.{no-size, no-place, no-bytes}
 use borrow.Author.Needs.{needs}
 use Rattle.storage.proofs.lacks_room.Statement.{statement}
 use Rattle.storage.proofs.lacks_room.Tie as tie
-use Rattle.storage.proofs.lacks_room.Reads as reads
-use Rattle.storage.proofs.lacks_room.Lts as lts
-use Rattle.directory.proofs.tally.Reads as tally-reads
-use Rattle.files.proofs.unused.Reads as unused-reads
 
--- src/lib.rt:83:9
 returns : tie.Need-returns
 returns c = no-size (c .before .before .args .store .now) (c .before .before .args .size) (search needs)
 
--- src/lib.rt:85:9
 tally-requires : tie.Need-tally-requires
 tally-requires c κs = search needs
 
--- src/lib.rt:87:9
 returns-2 : tie.Need-returns-2
 returns-2 c = no-place (c .before .before .before .before .before .args .store .now) (c .before .before .before .before .before .args .size) _ (search needs) (c .before .before .tally .ensures .0) (search needs)
 
--- src/lib.rt:89:5
 unused-requires : tie.Need-unused-requires
 unused-requires c κs = search needs
 
--- src/lib.rt:79:1
 returns-3 : tie.Need-returns-3
 returns-3 c = no-bytes (c .before .before .before .before .before .before .args .store .now) (c .before .before .before .before .before .before .args .size) _ _ (search needs) (c .before .before .before .tally .ensures .0) (search needs) (c .unused .ensures)
 

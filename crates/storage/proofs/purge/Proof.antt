@@ -3,51 +3,34 @@ use Rattle.outcome.proofs.Laws.{stores-on-refused, stores-on-done, done-with, p
 use borrow.Author.Needs.{needs}
 use Rattle.storage.proofs.purge.Statement.{statement}
 use Rattle.storage.proofs.purge.Tie as tie
-use Rattle.storage.proofs.purge.Reads as reads
-use Rattle.storage.proofs.purge.Lts as lts
-use Rattle.files.proofs.purge.Reads as purge-reads
-use Rattle.outcome.proofs.done.Reads as done-reads
-use Rattle.outcome.proofs.put_text.Reads as put-text-reads
-use Rattle.outcome.proofs.refused.Reads as refused-reads
-use Rattle.state.proofs.start_text.Reads as start-text-reads
 
--- src/lib.rt:200:9
 refused-requires : tie.Need-refused-requires
 refused-requires c κs = search needs
 
--- src/lib.rt:200:9
 returns : tie.Need-returns
 returns c = stores-on-refused 20 (c .refused .ensures) (λ g t. purge-first _ _ _ _ _ (search needs))
 
--- src/lib.rt:203:9
 refused-requires-2 : tie.Need-refused-requires-2
 refused-requires-2 c κs = search needs
 
--- src/lib.rt:203:9
 returns-2 : tie.Need-returns-2
 returns-2 c = stores-on-refused 20 (c .refused2 .ensures) (λ g t. purge-second _ _ _ _ _ (search needs) (search needs))
 
--- src/lib.rt:205:5
 purge-requires : tie.Need-purge-requires
 purge-requires c κs = search needs
 
--- src/lib.rt:206:26
 start-text-requires : tie.Need-start-text-requires
 start-text-requires c κs = search needs
 
--- src/lib.rt:206:10
 put-text-requires : tie.Need-put-text-requires
 put-text-requires c κs = search needs
 
--- src/lib.rt:206:5
 done-requires : tie.Need-done-requires
 done-requires c κs = search needs
 
--- src/lib.rt:196:1
 same-length : tie.Need-same-length
 same-length c = search needs
 
--- src/lib.rt:196:1
 returns-3 : tie.Need-returns-3
 returns-3 c = stores-on-done _ (done-with (put-with (c .before .before .before .before .before .before .before .before .before .before .args .state) (c .before .before .start-text .ensures) (c .before .put-text .ensures)) (c .done .ensures)) (λ g t. purge-done _ _ _ _ _ _ _ t (search needs) (search needs) (c .before .before .before .before .before .purge .ensures))
 

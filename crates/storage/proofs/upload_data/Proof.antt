@@ -3,85 +3,58 @@ use Rattle.outcome.proofs.Laws.{stores-refused, stores-one, stores-done, sendin
 use borrow.Author.Needs.{needs}
 use Rattle.storage.proofs.upload_data.Statement.{statement}
 use Rattle.storage.proofs.upload_data.Tie as tie
-use Rattle.storage.proofs.upload_data.Reads as reads
-use Rattle.storage.proofs.upload_data.Lts as lts
-use Rattle.files.proofs.append.Reads as append-reads
-use Rattle.files.proofs.store_byte.Reads as store-byte-reads
-use Rattle.outcome.proofs.done.Reads as done-reads
-use Rattle.outcome.proofs.in_phase.Reads as in-phase-reads
-use Rattle.outcome.proofs.one_byte.Reads as one-byte-reads
-use Rattle.outcome.proofs.refused.Reads as refused-reads
-use Rattle.outcome.proofs.sending.Reads as sending-reads
 
--- src/lib.rt:138:13
 in-phase-requires : tie.Need-in-phase-requires
 in-phase-requires c κs = search needs
 
--- src/lib.rt:149:30
 one-byte-requires : tie.Need-one-byte-requires
 one-byte-requires c κs = search needs
 
--- src/lib.rt:149:9
 sending-requires : tie.Need-sending-requires
 sending-requires c κs = search needs
 
--- src/lib.rt:149:9
 returns : tie.Need-returns
 returns c = stores-one _ _ (sending-with (c .before .before .in-phase .ensures) (c .before .one-byte .ensures) (c .sending .ensures)) (λ g. data-echoed _ _ _ _ _ _ _ _ _ _ (search needs))
 
--- src/lib.rt:152:9
 refused-requires : tie.Need-refused-requires
 refused-requires c κs = search needs
 
--- src/lib.rt:152:9
 returns-2 : tie.Need-returns-2
 returns-2 c = stores-refused 26 (c .refused .ensures) (λ g. data-26 _ _ _ _ _ _ _ _ _ _ (search needs) (search needs))
 
--- src/lib.rt:154:5
 store-byte-requires : tie.Need-store-byte-requires
 store-byte-requires c κs = search needs
 
--- src/lib.rt:155:8
 add-if3 : tie.Need-add-if3
 add-if3 c = search needs
 
--- src/lib.rt:162:25
 add-t19 : tie.Need-add-t19
 add-t19 c = search needs
 
--- src/lib.rt:156:13
 in-phase-requires-2 : tie.Need-in-phase-requires-2
 in-phase-requires-2 c κs = search needs
 
--- src/lib.rt:167:9
 done-requires : tie.Need-done-requires
 done-requires c κs = search needs
 
--- src/lib.rt:167:9
 same-length : tie.Need-same-length
 same-length c = search needs
 
--- src/lib.rt:167:9
 returns-3 : tie.Need-returns-3
 returns-3 c = stores-done _ (done-with (c .before .in-phase2 .ensures) (c .done .ensures)) (λ g. data-more _ _ _ _ _ _ _ _ _ _ _ (search needs) (search needs) (search needs) (c .before .before .before .before .before .store-byte .ensures))
 
--- src/lib.rt:169:5
 append-requires : tie.Need-append-requires
 append-requires c κs = search needs
 
--- src/lib.rt:170:10
 in-phase-requires-3 : tie.Need-in-phase-requires-3
 in-phase-requires-3 c κs = search needs
 
--- src/lib.rt:170:5
 done-requires-2 : tie.Need-done-requires-2
 done-requires-2 c κs = search needs
 
--- src/lib.rt:133:1
 same-length-2 : tie.Need-same-length-2
 same-length-2 c = search needs
 
--- src/lib.rt:133:1
 returns-4 : tie.Need-returns-4
 returns-4 c = stores-done _ (done-with (c .before .in-phase3 .ensures) (c .done2 .ensures)) (λ g. data-last _ _ _ _ _ _ _ _ _ _ _ _ (c .before .before .before .before .before .before .before .before .before .before .before .before .if1 .left) (c .before .before .before .before .before .before .before .before .before .before .before .if2 .left) (search needs) (c .before .before .before .before .before .before .before .before .before .store-byte .ensures) (c .before .before .before .before .append .ensures))
 

@@ -5,79 +5,55 @@ use mathlib.Core.Path.{refl}
 use borrow.Author.Needs.{needs}
 use Rattle.text.proofs.choose_font.Statement.{statement}
 use Rattle.text.proofs.choose_font.Tie as tie
-use Rattle.text.proofs.choose_font.Reads as reads
-use Rattle.text.proofs.choose_font.Lts as lts
-use Rattle.directory.proofs.find.Reads as find-reads
-use Rattle.directory.proofs.part.Reads as part-reads
-use Rattle.fonts.proofs.check_font.Reads as check-font-reads
-use Rattle.outcome.proofs.done.Reads as done-reads
-use Rattle.outcome.proofs.put_text.Reads as put-text-reads
-use Rattle.outcome.proofs.refused.Reads as refused-reads
 
--- src/lib.rt:109:21
 put-text-requires : tie.Need-put-text-requires
 put-text-requires c κs = search needs
 
--- src/lib.rt:109:9
 done-requires : tie.Need-done-requires
 done-requires c κs = search needs
 
--- src/lib.rt:109:9
 returns : tie.Need-returns
 returns c = stores-on-done _ (done-with (c .before .put-text .ensures) (c .done .ensures)) (λ g t. choose-opened _ _ _ _ _ t _ (open-built-in _ _ _ table (search needs) refl))
 
--- src/lib.rt:111:9
 find-requires : tie.Need-find-requires
 find-requires c κs = search needs
 
--- src/lib.rt:114:9
 enum-known-found : tie.Need-enum-known-found
 enum-known-found c = search needs
 
--- src/lib.rt:118:9
 enum-told : tie.Need-enum-told
 enum-told c = search needs
 
--- src/lib.rt:118:9
 refused-requires : tie.Need-refused-requires
 refused-requires c κs = search needs
 
--- src/lib.rt:118:9
 returns-2 : tie.Need-returns-2
 returns-2 c = stores-on-refused 22 (c .refused .ensures) (λ g t. choose-shut _ _ _ _ _ t _ (open-22 _ _ _ _ (search needs) (c .before .before .before .find .ensures) (search needs)))
 
--- src/lib.rt:120:9
 part-requires : tie.Need-part-requires
 part-requires c κs = search needs
 
--- src/lib.rt:121:9
 check-font-requires : tie.Need-check-font-requires
 check-font-requires c κs = search needs
 
 enum-told-2 : tie.Need-enum-told-2
 enum-told-2 c = search needs
 
--- src/lib.rt:123:9
 enum-told-3 : tie.Need-enum-told-3
 enum-told-3 c = search needs
 
--- src/lib.rt:123:9
 refused-requires-2 : tie.Need-refused-requires-2
 refused-requires-2 c κs = search needs
 
--- src/lib.rt:123:9
 returns-3 : tie.Need-returns-3
 returns-3 c = stores-on-refused 23 (c .refused2 .ensures) (λ g t. choose-shut _ _ _ _ _ t _ (open-23 _ _ _ _ (search needs) (c .before .before .before .before .before .before .before .before .find .ensures) _ _ _ _ _ (c .before .before .before .before .before .before .found .given .1) (c .before .before .before .before .part .ensures) (c .before .before .before .check-font .ensures) (search needs)))
 
--- src/lib.rt:125:10
 put-text-requires-2 : tie.Need-put-text-requires-2
 put-text-requires-2 c κs = search needs
 
--- src/lib.rt:125:5
 done-requires-2 : tie.Need-done-requires-2
 done-requires-2 c κs = search needs
 
--- src/lib.rt:103:1
 returns-4 : tie.Need-returns-4
 returns-4 c = stores-on-done _ (done-with (c .before .put-text2 .ensures) (c .done2 .ensures)) (λ g t. choose-opened _ _ _ _ _ t _ (open-good _ _ _ _ (c .before .before .before .before .before .before .before .before .before .before .if1 .left) (c .before .before .before .before .before .before .before .before .before .find .ensures) _ _ _ _ _ (c .before .before .before .before .before .before .before .found .given .1) (c .before .before .before .before .before .part .ensures) (c .before .before .before .before .check-font .ensures) (search needs)))
 

@@ -3,87 +3,61 @@ use Rattle.outcome.proofs.Laws.{shows-on-refused}
 use borrow.Author.Needs.{needs}
 use Rattle.text.proofs.draw_character.Statement.{statement}
 use Rattle.text.proofs.draw_character.Tie as tie
-use Rattle.text.proofs.draw_character.Reads as reads
-use Rattle.text.proofs.draw_character.Lts as lts
-use Rattle.builtin_font.proofs.file.Reads as file-reads
-use Rattle.directory.proofs.find.Reads as find-reads
-use Rattle.directory.proofs.part.Reads as part-reads
-use Rattle.fonts.proofs.check_font.Reads as check-font-reads
-use Rattle.outcome.proofs.refused.Reads as refused-reads
-use Rattle.text.proofs.draw_in.Reads as draw-in-reads
 
--- src/lib.rt:282:21
 file-requires : tie.Need-file-requires
 file-requires c κs = search needs
 
--- src/lib.rt:283:47
 slice-aggregate-draw-in : tie.Need-slice-aggregate-draw-in
 slice-aggregate-draw-in c = search needs
 
--- src/lib.rt:283:9
 draw-in-requires : tie.Need-draw-in-requires
 draw-in-requires c κs = search needs
 
--- src/lib.rt:283:9
 same-length : tie.Need-same-length
 same-length c = search needs
 
--- src/lib.rt:283:9
 returns : tie.Need-returns
 returns c = drawn _ _ (c .before .before .draw-in .ensures) (open-built-in _ _ _ _ (search needs) (c .before .before .before .before .before .file .ensures))
 
--- src/lib.rt:285:9
 find-requires : tie.Need-find-requires
 find-requires c κs = search needs
 
--- src/lib.rt:288:9
 enum-known-found : tie.Need-enum-known-found
 enum-known-found c = search needs
 
--- src/lib.rt:292:9
 enum-told : tie.Need-enum-told
 enum-told c = search needs
 
--- src/lib.rt:292:9
 refused-requires : tie.Need-refused-requires
 refused-requires c κs = search needs
 
--- src/lib.rt:292:9
 returns-2 : tie.Need-returns-2
 returns-2 c = shows-on-refused 22 (c .refused .ensures) (λ t. character-shut _ _ _ _ _ t _ (open-22 _ _ _ _ (search needs) (c .before .before .before .find .ensures) (search needs)))
 
--- src/lib.rt:294:9
 part-requires : tie.Need-part-requires
 part-requires c κs = search needs
 
--- src/lib.rt:295:9
 check-font-requires : tie.Need-check-font-requires
 check-font-requires c κs = search needs
 
 enum-told-2 : tie.Need-enum-told-2
 enum-told-2 c = search needs
 
--- src/lib.rt:297:9
 enum-told-3 : tie.Need-enum-told-3
 enum-told-3 c = search needs
 
--- src/lib.rt:297:9
 refused-requires-2 : tie.Need-refused-requires-2
 refused-requires-2 c κs = search needs
 
--- src/lib.rt:297:9
 returns-3 : tie.Need-returns-3
 returns-3 c = shows-on-refused 23 (c .refused2 .ensures) (λ t. character-shut _ _ _ _ _ t _ (open-23 _ _ _ _ (search needs) (c .before .before .before .before .before .before .before .before .find .ensures) _ _ _ _ _ (c .before .before .before .before .before .before .found .given .1) (c .before .before .before .before .part .ensures) (c .before .before .before .check-font .ensures) (search needs)))
 
--- src/lib.rt:299:5
 draw-in-requires-2 : tie.Need-draw-in-requires-2
 draw-in-requires-2 c κs = search needs
 
--- src/lib.rt:277:1
 same-length-2 : tie.Need-same-length-2
 same-length-2 c = search needs
 
--- src/lib.rt:277:1
 returns-4 : tie.Need-returns-4
 returns-4 c = drawn _ _ (c .before .before .draw-in2 .ensures) (open-good _ _ _ _ (c .before .before .before .before .before .before .before .before .before .before .before .before .if1 .left) (c .before .before .before .before .before .before .before .before .before .before .before .find .ensures) _ _ _ _ _ (c .before .before .before .before .before .before .before .before .before .found .given .1) (c .before .before .before .before .before .before .before .part .ensures) (c .before .before .before .before .before .before .check-font .ensures) (search needs))
 

@@ -2,23 +2,16 @@ use Rattle.text.proofs.Places.{up-some, up-none}
 use borrow.Author.Needs.{needs}
 use Rattle.text.proofs.move_up.Statement.{statement}
 use Rattle.text.proofs.move_up.Tie as tie
-use Rattle.text.proofs.move_up.Reads as reads
-use Rattle.text.proofs.move_up.Lts as lts
-use Rattle.scroll.proofs.scroll_up.Reads as scroll-up-reads
 
--- src/lib.rt:250:9
 scroll-up-requires : tie.Need-scroll-up-requires
 scroll-up-requires c κs = search needs
 
--- src/lib.rt:246:1
 same-length : tie.Need-same-length
 same-length c = search needs
 
--- src/lib.rt:246:1
 returns : tie.Need-returns
 returns c = up-some (c .before .before .before .before .before .before .args .rows) _ _ (search needs) (c .before .before .scroll-up .ensures)
 
--- src/lib.rt:246:1
 returns-2 : tie.Need-returns-2
 returns-2 c = up-none (c .before .before .args .rows) _ (search needs)
 

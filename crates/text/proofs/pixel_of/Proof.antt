@@ -2,44 +2,31 @@ use Rattle.text.proofs.Laws.{pixel-is}
 use borrow.Author.Needs.{needs}
 use Rattle.text.proofs.pixel_of.Statement.{statement}
 use Rattle.text.proofs.pixel_of.Tie as tie
-use Rattle.text.proofs.pixel_of.Reads as reads
-use Rattle.text.proofs.pixel_of.Lts as lts
-use Rattle.text.proofs.long.Reads as long-reads
-use Rattle.text.proofs.product.Reads as product-reads
 
--- src/lib.rt:146:16
 long-requires : tie.Need-long-requires
 long-requires c κs = search needs
 
--- src/lib.rt:146:29
 long-requires-2 : tie.Need-long-requires-2
 long-requires-2 c κs = search needs
 
--- src/lib.rt:146:16
 add-step : tie.Need-add-step
 add-step c = search needs
 
--- src/lib.rt:147:5
 long-requires-3 : tie.Need-long-requires-3
 long-requires-3 c κs = search needs
 
--- src/lib.rt:147:28
 long-requires-4 : tie.Need-long-requires-4
 long-requires-4 c κs = search needs
 
--- src/lib.rt:147:28
 sub-product : tie.Need-sub-product
 sub-product c = search needs
 
--- src/lib.rt:147:20
 product-requires : tie.Need-product-requires
 product-requires c κs = search needs
 
--- src/lib.rt:147:5
 add-result : tie.Need-add-result
 add-result c = search needs
 
--- src/lib.rt:142:1
 returns : tie.Need-returns
 returns c = pixel-is _ _ _ _ _ _ _ _ _ (c .before .before .before .before .long .ensures .0) (c .before .before .before .long2 .ensures .0) (c .before .before .long3 .ensures .0) (c .before .long4 .ensures .0) (c .product .ensures .0)
 

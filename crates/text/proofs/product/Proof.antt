@@ -3,14 +3,10 @@ use Rattle.text.proofs.Laws.{product-fits}
 use native.Mathlib.Omega.{arith}
 use Rattle.text.proofs.product.Statement.{statement}
 use Rattle.text.proofs.product.Tie as tie
-use Rattle.text.proofs.product.Reads as reads
-use Rattle.text.proofs.product.Lts as lts
 
--- src/lib.rt:65:5
 mul-result : tie.Need-mul-result
 mul-result c = omega (arith, product-fits (c .args .a) (c .args .b) (c .pre .0) (c .pre .1))
 
--- src/lib.rt:61:1
 returns : tie.Need-returns
 returns c = (refl, product-fits (c .args .a) (c .args .b) (c .pre .0) (c .pre .1))
 

@@ -3,79 +3,55 @@ use Rattle.outcome.proofs.Laws.{stores-on-refused}
 use borrow.Author.Needs.{needs}
 use Rattle.text.proofs.set_place.Statement.{statement}
 use Rattle.text.proofs.set_place.Tie as tie
-use Rattle.text.proofs.set_place.Reads as reads
-use Rattle.text.proofs.set_place.Lts as lts
-use Rattle.builtin_font.proofs.file.Reads as file-reads
-use Rattle.directory.proofs.find.Reads as find-reads
-use Rattle.directory.proofs.part.Reads as part-reads
-use Rattle.fonts.proofs.check_font.Reads as check-font-reads
-use Rattle.outcome.proofs.refused.Reads as refused-reads
-use Rattle.text.proofs.place_in.Reads as place-in-reads
 
--- src/lib.rt:167:21
 file-requires : tie.Need-file-requires
 file-requires c κs = search needs
 
--- src/lib.rt:168:40
 slice-aggregate-place-in : tie.Need-slice-aggregate-place-in
 slice-aggregate-place-in c = search needs
 
--- src/lib.rt:168:9
 place-in-requires : tie.Need-place-in-requires
 place-in-requires c κs = search needs
 
--- src/lib.rt:168:9
 returns : tie.Need-returns
 returns c = placed _ _ _ (c .place-in .ensures) (open-built-in _ _ _ _ (search needs) (c .before .before .file .ensures))
 
--- src/lib.rt:170:9
 find-requires : tie.Need-find-requires
 find-requires c κs = search needs
 
--- src/lib.rt:173:9
 enum-known-found : tie.Need-enum-known-found
 enum-known-found c = search needs
 
--- src/lib.rt:177:9
 enum-told : tie.Need-enum-told
 enum-told c = search needs
 
--- src/lib.rt:177:9
 refused-requires : tie.Need-refused-requires
 refused-requires c κs = search needs
 
--- src/lib.rt:177:9
 returns-2 : tie.Need-returns-2
 returns-2 c = stores-on-refused 22 (c .refused .ensures) (λ g t. place-shut _ _ _ _ _ _ t _ (open-22 _ _ _ _ (search needs) (c .before .before .before .find .ensures) (search needs)))
 
--- src/lib.rt:179:9
 part-requires : tie.Need-part-requires
 part-requires c κs = search needs
 
--- src/lib.rt:180:9
 check-font-requires : tie.Need-check-font-requires
 check-font-requires c κs = search needs
 
 enum-told-2 : tie.Need-enum-told-2
 enum-told-2 c = search needs
 
--- src/lib.rt:182:9
 enum-told-3 : tie.Need-enum-told-3
 enum-told-3 c = search needs
 
--- src/lib.rt:182:9
 refused-requires-2 : tie.Need-refused-requires-2
 refused-requires-2 c κs = search needs
 
--- src/lib.rt:182:9
 returns-3 : tie.Need-returns-3
 returns-3 c = stores-on-refused 23 (c .refused2 .ensures) (λ g t. place-shut _ _ _ _ _ _ t _ (open-23 _ _ _ _ (search needs) (c .before .before .before .before .before .before .before .before .find .ensures) _ _ _ _ _ (c .before .before .before .before .before .before .found .given .1) (c .before .before .before .before .part .ensures) (c .before .before .before .check-font .ensures) (search needs)))
 
--- src/lib.rt:184:5
 place-in-requires-2 : tie.Need-place-in-requires-2
 place-in-requires-2 c κs = search needs
 
--- src/lib.rt:162:1
 returns-4 : tie.Need-returns-4
 returns-4 c = placed _ _ _ (c .place-in2 .ensures) (open-good _ _ _ _ (search needs) (c .before .before .before .before .before .before .before .before .find .ensures) _ _ _ _ _ (c .before .before .before .before .before .before .found .given .1) (c .before .before .before .before .part .ensures) (c .before .before .before .check-font .ensures) (search needs))
 

@@ -2,97 +2,70 @@ use Rattle.text.proofs.Places.{wrap-here, wrap-nowhere, wrap-below, wra
 use borrow.Author.Needs.{needs}
 use Rattle.text.proofs.wrapped.Statement.{statement}
 use Rattle.text.proofs.wrapped.Tie as tie
-use Rattle.text.proofs.wrapped.Reads as reads
-use Rattle.text.proofs.wrapped.Lts as lts
-use Rattle.text.proofs.long.Reads as long-reads
-use Rattle.text.proofs.wide.Reads as wide-reads
-use Rattle.text.proofs.word.Reads as word-reads
 
--- src/lib.rt:203:9
 word-requires : tie.Need-word-requires
 word-requires c κs = search needs
 
--- src/lib.rt:204:8
 wide-requires : tie.Need-wide-requires
 wide-requires c κs = search needs
 
--- src/lib.rt:204:23
 long-requires : tie.Need-long-requires
 long-requires c κs = search needs
 
--- src/lib.rt:204:8
 add-if1 : tie.Need-add-if1
 add-if1 c = search needs
 
--- src/lib.rt:204:38
 wide-requires-2 : tie.Need-wide-requires-2
 wide-requires-2 c κs = search needs
 
--- src/lib.rt:205:9
 returns : tie.Need-returns
 returns c = wrap-here _ _ _ _ _ _ (search needs) (search needs) (search needs) (search needs)
 
--- src/lib.rt:212:9
 returns-2 : tie.Need-returns-2
 returns-2 c = wrap-nowhere _ _ _ 0 0 0 (search needs) (search needs)
 
--- src/lib.rt:214:9
 word-requires-2 : tie.Need-word-requires-2
 word-requires-2 c κs = search needs
 
--- src/lib.rt:215:21
 word-requires-3 : tie.Need-word-requires-3
 word-requires-3 c κs = search needs
 
--- src/lib.rt:215:17
 add-below : tie.Need-add-below
 add-below c = search needs
 
--- src/lib.rt:215:34
 word-requires-4 : tie.Need-word-requires-4
 word-requires-4 c κs = search needs
 
--- src/lib.rt:215:17
 add-below-2 : tie.Need-add-below-2
 add-below-2 c = search needs
 
--- src/lib.rt:216:16
 word-requires-5 : tie.Need-word-requires-5
 word-requires-5 c κs = search needs
 
--- src/lib.rt:216:8
 add-if3 : tie.Need-add-if3
 add-if3 c = search needs
 
--- src/lib.rt:216:30
 word-requires-6 : tie.Need-word-requires-6
 word-requires-6 c κs = search needs
 
--- src/lib.rt:217:9
 returns-3 : tie.Need-returns-3
 returns-3 c = wrap-below _ _ _ _ _ _ (search needs) (search needs) (search needs) (search needs) (search needs) (search needs)
 
--- src/lib.rt:227:17
 word-requires-7 : tie.Need-word-requires-7
 word-requires-7 c κs = search needs
 
--- src/lib.rt:227:30
 word-requires-8 : tie.Need-word-requires-8
 word-requires-8 c κs = search needs
 
--- src/lib.rt:227:17
 add-t17 : tie.Need-add-t17
 add-t17 c = search needs
 
--- src/lib.rt:224:9
 returns-4 : tie.Need-returns-4
 returns-4 c = wrap-up _ _ _ _ _ _ (search needs) (search needs) (search needs) (search needs) (search needs) (search needs) (search needs)
 
--- src/lib.rt:232:12
 word-requires-9 : tie.Need-word-requires-9
 word-requires-9 c κs = search needs
 
--- src/lib.rt:200:1
 returns-5 : tie.Need-returns-5
 returns-5 c = wrap-top _ _ _ _ _ _ (search needs) (search needs) (search needs) (search needs) (search needs) (search needs) (search needs)
 

@@ -2,15 +2,10 @@ use Rattle.state.proofs.Start.{port-started}
 use borrow.Author.Needs.{needs}
 use Rattle.state.proofs.initial.start_port.Statement.{statement}
 use Rattle.state.proofs.initial.start_port.Tie as tie
-use Rattle.state.proofs.initial.start_port.Reads as reads
-use Rattle.state.proofs.initial.start_port.Lts as lts
-use Rattle.state.proofs.initial.start_text.Reads as start-text-reads
 
--- src/initial.rt:44:15
 start-text-requires : tie.Need-start-text-requires
 start-text-requires c κs = search needs
 
--- src/initial.rt:38:1
 returns : tie.Need-returns
 returns c = port-started _ _ (c .start-text .ensures)
 

@@ -1,0 +1,45 @@
+use Prim.Native.Nat.{_-_, _≤_}
+use borrow.Author.Needs.{needs}
+use Rattle.listing.proofs.next_black.Statement.{statement}
+use Rattle.listing.proofs.next_black.Tie as tie
+
+abbrev Inv-loop : tie.InvT-loop
+Inv-loop glass x y next₀ next = x ≤ next
+
+abbrev μ-loop : tie.MeasureT-loop
+μ-loop glass x y next₀ next = 240 - next
+
+loop-holds : tie.Need-loop-holds Inv-loop μ-loop
+loop-holds c = search needs
+
+is-black-requires : tie.Need-is-black-requires Inv-loop μ-loop
+is-black-requires c κs = search needs
+
+returns : tie.Need-returns Inv-loop μ-loop
+returns c = search needs
+
+add-next : tie.Need-add-next Inv-loop μ-loop
+add-next c = search needs
+
+loop-less : tie.Need-loop-less Inv-loop μ-loop
+loop-less c = search needs
+
+loop-again : tie.Need-loop-again Inv-loop μ-loop
+loop-again c = search needs
+
+returns-2 : tie.Need-returns-2 Inv-loop μ-loop
+returns-2 c = search needs
+
+pub next-black-spec : {M : Type 1} → statement M
+next-black-spec =
+    tie.close
+    (tie.spec
+    Inv-loop
+    μ-loop
+    loop-holds
+    is-black-requires
+    returns
+    add-next
+    loop-less
+    loop-again
+    returns-2)

@@ -1,0 +1,212 @@
+// Obeys the bytes of the standard input on a fresh display, and lists what they leave: black runs of each row, refusals, replies.
+use canvas::LENGTH;
+use canvas::WIDTH;
+use canvas::is_black;
+use display::STORE_MOST;
+use display::display_feed;
+use display::display_start;
+ghost use Prim.Native.Nat.{_≤_};
+ghost use lib.ListN.{length};
+
+// The glass's rows.
+const ROWS: u16 = 64;
+
+// Bytes of a piece, and room for all that they can send.
+const PIECE: usize = 4096;
+
+const ROOM: usize = 8192;
+
+// Replies that are listed at most.
+const SHOWN: usize = 4096;
+
+// The first black column from x on, or the width.
+fn next_black(glass: &[u8], x: u16, y: u16) -> u16
+    ensures { λ r. ⌜ x ≤ r ⌝ }
+{
+    let mut next = x;
+    while next < WIDTH {
+        if is_black(glass, next, y) {
+            return next;
+        }
+        next += 1;
+    }
+    next
+}
+
+// The column behind the black run that goes on from x.
+fn run_end(glass: &[u8], x: u16, y: u16) -> u16
+    ensures { λ r. ⌜ x ≤ r ⌝ }
+{
+    let mut end = x;
+    while end < WIDTH {
+        if !is_black(glass, end, y) {
+            return end;
+        }
+        end += 1;
+    }
+    end
+}
+
+fn show_run(first: u16, last: u16) {
+    io::write_all(1, b" ");
+    io::print_decimal(1, first as u64);
+    io::write_all(1, b"-");
+    io::print_decimal(1, last as u64);
+}
+
+fn show_row(glass: &[u8], y: u16) {
+    let mut x = next_black(glass, 0, y);
+    if x >= WIDTH {
+        return;
+    }
+    io::print_decimal(1, y as u64);
+    io::write_all(1, b":");
+    while x < WIDTH {
+        let end = run_end(glass, x + 1, y);
+        show_run(x, end - 1);
+        x = next_black(glass, end, y);
+    }
+    io::write_all(1, b"\n");
+}
+
+fn show_glass(glass: &[u8]) {
+    io::write_all(1, b"glass 240 64\n");
+    let mut y = 0;
+    while y < ROWS {
+        show_row(glass, y);
+        y += 1;
+    }
+}
+
+fn show_refusals(state: &[u8]) {
+    let s = record::decode(state);
+    let refusals = s.port.refusals;
+    io::write_all(1, b"refused ");
+    io::print_decimal(1, refusals.count as u64);
+    io::write_all(1, b" last ");
+    io::print_decimal(1, refusals.last as u64);
+    io::write_all(1, b"\n");
+}
+
+fn show_reply(byte: u8) {
+    io::write_all(1, b" ");
+    io::print_decimal(1, byte as u64);
+}
+
+fn show_replies(shown: &[u8]) {
+    io::write_all(1, b"replies");
+    let mut i = 0;
+    while i < shown.len() {
+        show_reply(shown[i]);
+        i += 1;
+    }
+    io::write_all(1, b"\n");
+}
+
+// Puts replies behind the first `count` that are listed, as far as there is room; the answer is the new count.
+fn keep(shown: &mut [u8], count: usize, replies: &[u8]) -> usize
+    requires { ⌜ count ≤ length (now shown) ⌝ }
+    ensures { λ r. ⌜ r ≤ length (now (shown .entry)) ⌝ }
+{
+    let mut at = count;
+    let mut i = 0;
+    while i < replies.len() {
+        if at >= shown.len() {
+            return at;
+        }
+        shown[at] = replies[i];
+        at += 1;
+        i += 1;
+    }
+    at
+}
+
+// Feeds a piece; its replies are put with those that are listed.
+fn feed(
+    glass: &mut [u8],
+    store: &mut [u8],
+    state: &mut [u8],
+    piece: &[u8],
+    shown: &mut [u8],
+    count: usize,
+) -> usize
+    requires { ⌜ count ≤ length (now shown) ⌝ }
+    ensures { λ r. ⌜ r ≤ length (now (shown .entry)) ⌝ }
+{
+    let mut replies = [0u8; ROOM];
+    let mut consumed = 0usize;
+    let mut replied = 0usize;
+    display_feed(
+        glass,
+        store,
+        state,
+        piece,
+        &mut replies,
+        &mut consumed,
+        &mut replied,
+    );
+    if replied > ROOM {
+        return count;
+    }
+    keep(shown, count, &replies[..replied])
+}
+
+struct Turn {
+    more: bool,
+    count: usize,
+}
+
+// Reads a piece and feeds it; the answer says whether there may be more.
+fn obey_some(
+    glass: &mut [u8],
+    store: &mut [u8],
+    state: &mut [u8],
+    shown: &mut [u8],
+    count: usize,
+) -> Turn
+    requires { ⌜ count ≤ length (now shown) ⌝ }
+    ensures { λ r. ⌜ r .count ≤ length (now (shown .entry)) ⌝ }
+{
+    let mut piece = [0u8; PIECE];
+    let n = io::read_full(0, &mut piece);
+    if n == 0 {
+        return Turn {
+            more: false,
+            count: count,
+        };
+    }
+    Turn {
+        more: true,
+        count: feed(glass, store, state, &piece[..n], shown, count),
+    }
+}
+
+// A proved loop has to end, and nothing says that the input does: so it counts down from a number that no run uses up.
+fn obey_all(glass: &mut [u8], store: &mut [u8], state: &mut [u8], shown: &mut [u8]) -> usize
+    ensures { λ r. ⌜ r ≤ length (now (shown .entry)) ⌝ }
+{
+    let mut turns = u64::MAX;
+    let mut count = 0;
+    while turns > 0 {
+        let turn = obey_some(glass, store, state, shown, count);
+        count = turn.count;
+        if !turn.more {
+            return count;
+        }
+        turns -= 1;
+    }
+    count
+}
+
+fn main() {
+    let mut glass = [0u8; LENGTH];
+    let mut store = [0u8; STORE_MOST];
+    let mut state = [0u8; record::RECORD];
+    let mut queue = [0u8; queue::RECORD];
+    display_start(&mut glass, &mut store, &mut state, &mut queue);
+    let mut shown = [0u8; SHOWN];
+    let count = obey_all(&mut glass, &mut store, &mut state, &mut shown);
+    show_glass(&glass);
+    show_refusals(&state);
+    show_replies(&shown[..count]);
+}

@@ -1,0 +1,165 @@
+// The C boundary of the display: four calls over lent memory, and the numbers that a driver needs. For C99 and C++11.
+//
+// One display is four slices of memory, all of them the driver's own:
+//
+//   glass   the framebuffer: DISPLAY_HEIGHT rows from the top down, DISPLAY_STRIDE bytes to a row; bit 7 of a byte is
+//           its leftmost pixel, and a set bit is a black one
+//   store   the fonts and bitmaps that hosts have uploaded: a directory of DISPLAY_DIRECTORY_SIZE bytes, then the
+//           files. A new store has a directory of zeros. Its length is the board's choice between least and most
+//   state   the state record: the command under way, settings, graphs, counters. What a board may read of it has an
+//           offset below; the rest is the library's business
+//   queue   the queue record: bytes that came on the wire and wait to be obeyed
+//
+// The library looks at every length and every byte before it uses them, so no contents can harm it. Four things it
+// cannot see, and the caller keeps to them:
+//
+//   - Each length is the number of bytes that really are at its pointer. Where it is 0 the pointer may be null.
+//   - No two slices of a call share a byte.
+//   - Each output is a variable of its own, aligned for its type and outside every slice.
+//   - Two calls for the same display never run at once, not even one from an interrupt: display_arrive reads the state
+//     record while display_feed may be writing it. A handler that strikes during a feed keeps its bytes in a buffer of
+//     the driver's, and the main loop hands them to display_arrive after it.
+//
+// A driver's round: hand in what has come with display_arrive; send the replies of the round before; then, as often as
+// DISPLAY_REPLY_ROOM reply bytes are free, get a byte with display_take and obey it with display_feed. Send each signal
+// as it is given. Then bring framebuffer, contrast and backlight to the panel.
+//
+//   - Replies go out before more is fed: lent less than DISPLAY_REPLY_ROOM bytes for them, display_feed consumes none
+//     of the bytes it is given and answers DISPLAY_NO_REPLY_ROOM.
+//   - A byte stays in the queue until there is room to feed it: from display_take to display_feed the driver holds the
+//     only copy.
+
+#ifndef DISPLAY_H
+#define DISPLAY_H
+
+#include <stddef.h>
+#include <stdint.h>
+
+#ifdef __cplusplus
+extern "C" {
+#endif
+
+// Sizes: pixels of the panel, bytes of all else.
+#define DISPLAY_WIDTH 240u
+#define DISPLAY_HEIGHT 64u
+#define DISPLAY_STRIDE 30u
+#define DISPLAY_FRAMEBUFFER_SIZE 1920u
+#define DISPLAY_STORE_LEAST 1024u
+#define DISPLAY_STORE_MOST 32768u
+#define DISPLAY_DIRECTORY_SIZE 256u
+#define DISPLAY_STATE_RECORD_SIZE 201u
+#define DISPLAY_QUEUE_RECORD_SIZE 85u
+#define DISPLAY_QUEUE_CAPACITY 80u // bytes that wait at most
+#define DISPLAY_REPLY_ROOM 2u      // free reply bytes that every fed byte needs, whether it replies or not
+
+// Answers of the calls.
+#define DISPLAY_OK 0u
+#define DISPLAY_BAD_FRAMEBUFFER_SIZE 1u
+#define DISPLAY_BAD_STORE_SIZE 2u
+#define DISPLAY_BAD_RECORD 3u    // wrong length, or contents that are not sound
+#define DISPLAY_BAD_DIRECTORY 4u // broken, or at odds with the upload under way
+#define DISPLAY_NO_REPLY_ROOM 5u // the only one of 1 to 7 after which bytes may have been obeyed
+#define DISPLAY_QUEUE_EMPTY 6u
+#define DISPLAY_QUEUE_FULL 7u
+
+// Last refusal: why a command or character in the stream was not obeyed. The call that fed it answers as ever.
+#define DISPLAY_NO_REFUSAL 0u // none since start
+#define DISPLAY_REFUSED_UNKNOWN_COMMAND 16u
+#define DISPLAY_REFUSED_OFF_SCREEN 17u
+#define DISPLAY_REFUSED_CORNERS_OUT_OF_ORDER 18u
+#define DISPLAY_REFUSED_NUMBER_OUT_OF_RANGE 19u
+#define DISPLAY_REFUSED_UNKNOWN_TYPE 20u // or a purge without its two guard bytes
+#define DISPLAY_REFUSED_NOT_SET_UP 21u   // bar graph or strip chart
+#define DISPLAY_REFUSED_NO_SUCH_FILE 22u
+#define DISPLAY_REFUSED_MALFORMED_FILE 23u
+#define DISPLAY_REFUSED_NO_SPACE 24u // an upload too large, of no bytes, or into a full directory
+#define DISPLAY_REFUSED_NUMBER_IN_USE 25u
+#define DISPLAY_REFUSED_UPLOAD_ABORTED 26u
+#define DISPLAY_REFUSED_BAD_WATERMARKS 27u // flow control thresholds too large together
+#define DISPLAY_REFUSED_NO_GLYPH 28u
+#define DISPLAY_REFUSED_GLYPH_DOES_NOT_FIT 29u
+
+// Signals of flow control: bytes to send to the host as they are, but for NONE.
+#define DISPLAY_SIGNAL_NONE 0u
+#define DISPLAY_SIGNAL_ALMOST_FULL 254u
+#define DISPLAY_SIGNAL_ALMOST_EMPTY 255u
+
+// Offsets into the state record.
+#define DISPLAY_STATE_REFUSAL_COUNT_LOW 40u
+#define DISPLAY_STATE_REFUSAL_COUNT_HIGH 41u
+#define DISPLAY_STATE_LAST_REFUSAL 42u
+#define DISPLAY_STATE_CONTRAST 198u
+#define DISPLAY_STATE_BACKLIGHT_ON 199u      // 0 or 1
+#define DISPLAY_STATE_BACKLIGHT_MINUTES 200u // as sent, kept while the backlight is off
+
+// Offsets into the queue record.
+#define DISPLAY_QUEUE_LOST_COUNT_LOW 83u
+#define DISPLAY_QUEUE_LOST_COUNT_HIGH 84u
+
+// Power-up: white framebuffer, settings and counters as new, empty queue. The store is only read and keeps its files.
+// The records may hold anything before.
+// OK, or the first that applies of BAD_FRAMEBUFFER_SIZE, BAD_STORE_SIZE, BAD_RECORD (a length is wrong) and
+// BAD_DIRECTORY; nothing is written then.
+uint32_t display_start(uint8_t *glass, size_t glass_length, uint8_t *store, size_t store_length, uint8_t *state,
+                       size_t state_length, uint8_t *queue, size_t queue_length);
+
+// Obeys the bytes of `piece`, the next stretch of the stream, in order. A stream may be cut anywhere, also inside a
+// command. What the bytes send is written to `replies` from its start; behind the first `*replied` bytes it keeps
+// what it held.
+// OK: all bytes are consumed. NO_REPLY_ROOM: the first `*consumed` are done for good; send the replies, then feed the
+// others. The first that applies of BAD_FRAMEBUFFER_SIZE, BAD_STORE_SIZE, BAD_RECORD and BAD_DIRECTORY: nothing is
+// done, and both counts are 0. An empty piece does nothing but these checks, and needs no reply room.
+uint32_t display_feed(uint8_t *glass, size_t glass_length, uint8_t *store, size_t store_length, uint8_t *state,
+                      size_t state_length, const uint8_t *piece, size_t piece_length, uint8_t *replies,
+                      size_t replies_length, size_t *consumed, size_t *replied);
+
+// Puts a byte that came on the wire at the end of the queue.
+// OK: it waits there; `*signal` may ask the host to pause. QUEUE_FULL: it is thrown away and counted as lost.
+// BAD_RECORD, of either record: nothing changes. `*signal` is NONE with both refusals.
+uint32_t display_arrive(const uint8_t *state, size_t state_length, uint8_t *queue, size_t queue_length, uint8_t byte,
+                        uint8_t *signal);
+
+// Takes the byte that has waited longest out of the queue.
+// OK: it is `*byte`; `*signal` may ask the host to go on. QUEUE_EMPTY, and BAD_RECORD of either record: nothing
+// changes, `*byte` is 0 and `*signal` NONE.
+uint32_t display_take(const uint8_t *state, size_t state_length, uint8_t *queue, size_t queue_length, uint8_t *byte,
+                      uint8_t *signal);
+
+// Commands and characters refused since start; 65,535 is followed by 0.
+static inline unsigned display_refusal_count(const uint8_t *state)
+{
+    return state[DISPLAY_STATE_REFUSAL_COUNT_LOW] + 256u * state[DISPLAY_STATE_REFUSAL_COUNT_HIGH];
+}
+
+static inline unsigned display_last_refusal(const uint8_t *state)
+{
+    return state[DISPLAY_STATE_LAST_REFUSAL];
+}
+
+static inline unsigned display_contrast(const uint8_t *state)
+{
+    return state[DISPLAY_STATE_CONTRAST];
+}
+
+static inline int display_backlight_is_on(const uint8_t *state)
+{
+    return state[DISPLAY_STATE_BACKLIGHT_ON] != 0;
+}
+
+// Minutes until the board turns the backlight off by itself; 0 is never.
+static inline unsigned display_backlight_minutes(const uint8_t *state)
+{
+    return state[DISPLAY_STATE_BACKLIGHT_MINUTES];
+}
+
+// Bytes dropped at a full queue since start; 65,535 is followed by 0.
+static inline unsigned display_lost_count(const uint8_t *queue)
+{
+    return queue[DISPLAY_QUEUE_LOST_COUNT_LOW] + 256u * queue[DISPLAY_QUEUE_LOST_COUNT_HIGH];
+}
+
+#ifdef __cplusplus
+}
+#endif
+
+#endif
