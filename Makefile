@@ -1,8 +1,23 @@
-# make test: every test. make demo: the main job.
-.PHONY: test demo
+# make test: every test. make demo: the main job. make fuzz SECONDS=n: the comparison with new seeds. make bench: speed.
+.PHONY: test demo fuzz bench listing archive
+
+SECONDS ?= 60
 
 test:
 	@tools/run-tests
 
-demo:
-	@echo 'demo: the listing program is not built yet; it comes with the command interpreter' >&2; exit 1
+demo: listing
+	@demo/sample-page | target/bin/listing
+
+fuzz: archive
+	@cd tests/compare && DISPLAY_ARCHIVE_DIR=$(CURDIR)/target/staticlib CARGO_TARGET_DIR=$(CURDIR)/target/tests \
+	    cargo run --release --offline --bin fuzz -- $(SECONDS)
+
+bench: archive
+	@bench/run target/staticlib
+
+listing:
+	@mkdir -p target && rt check listing >target/demo.log 2>&1 || { cat target/demo.log >&2; exit 1; }
+
+archive:
+	@mkdir -p target && rt staticlib display >target/archive.log 2>&1 || { cat target/archive.log >&2; exit 1; }

@@ -25,6 +25,7 @@ use Rattle.record.specs.Reading.{decodeOf}
 use Rattle.record.specs.Writing.{encodeOf}
 use Rattle.record.specs.Record.{soundRecord}
 use Rattle.record.proofs.Bytes.{decoded-fits}
+use Rattle.record.proofs.Same.{both}
 use Rattle.record.proofs.Round.{decode-encode, encode-decode, encoded-sound, passed}
 use Rattle.rules.specs.World.{World, world, port}
 use Rattle.rules.specs.Files.{inUse, noRoom}
@@ -41,8 +42,9 @@ use Rattle.rules.proofs.GoodByte.{good-step, good-start, screen-length, store-l
 use Rattle.calls.specs.Memory.{screenBytes, Memory, storeFits, uploadRefused, checked, loaded, saved, Kept}
 use Rattle.calls.specs.Feed.{Fed, fed, feedOf}
 use Rattle.calls.specs.Line.{bothSound}
-use Rattle.calls.specs.Start.{startChecked, startOf}
+use Rattle.calls.specs.Start.{emptied, startChecked, startOf}
 use Rattle.calls.specs.List.{Board, board, Call, afterAll, consumedAll, sentAll, pieces}
+use Rattle.calls.proofs.LineCalls.{emptied-sound}
 use Rattle.calls.proofs.Bridge.{fits, port-fits, panel-fits}
 use Rattle.calls.proofs.Lists.{BytesInAll, both-true, streamed, consumed-whole}
 
@@ -227,6 +229,7 @@ zeros (suc n) zero = omega arith
 zeros (suc n) (suc i) = zeros n i
 
 pub record StartChecks (m : Memory) (q : List ℕ) : Type 0 where
+  pub queue-size : length q ≡ 85
   pub store : storeFits (m .store) ≡ true
   pub valid : validOf (m .store) ≡ true
 
@@ -236,16 +239,31 @@ start-checks m q e =
     let a = unanswered (eqb (length (m .screen)) 1920) 0 _ e in
     let b = unanswered (storeFits (m .store)) 1 _ (a .1) in
     let c = unanswered (eqb (length (m .state)) recordSize && eqb (length q) queue-record.recordSize) 2 _ (b .1) in
-    record { store = b .0; valid = unanswered (validOf (m .store)) 3 0 (c .1) .0 }
+    let d = both (eqb (length (m .state)) recordSize) (eqb (length q) queue-record.recordSize) (c .0) in
+    record { queue-size = eqb-true (length q) 85 (d .1); store = b .0; valid = unanswered (validOf (m .store)) 3 0 (c .1) .0 }
+
+-- the world that a start leaves
+abbrev pub startWorld : List ℕ → World
+startWorld s = world (replicate screenBytes 0) s (startState 64)
+
+pub start-kept : (m : Memory) (q : List ℕ) → Bytes (m .store) → startChecked m q ≡ 0 → Kept (startWorld (m .store))
+start-kept m q b e =
+    let c = start-checks m q e in
+    let g : List ℕ = replicate 1920 0 in
+    let n : length g ≡ 1920 = length-replicate {A = ℕ} 1920 0 in
+    record { good = good-start 64 g (m .store) n (omega arith) (zeros 1920) b (c .valid); screen = n; store = c .store }
 
 -- after a start that answers 0 every check passes, and the world is the start's
 pub start-passes : (m : Memory) (q : List ℕ) → Bytes (m .store) → startChecked m q ≡ 0
-    → (checked (startOf m q .left) ≡ 0) × (loaded (startOf m q .left) ≡ world (replicate screenBytes 0) (m .store) (startState 64))
+    → (checked (startOf m q .left) ≡ 0) × (loaded (startOf m q .left) ≡ startWorld (m .store))
 unfolding startOf
 start-passes m q b e =
-    let c = start-checks m q e in
-    let g : List ℕ = replicate 1920 0 in
-    let w = world g (m .store) (startState 64) in
-    let n : length g ≡ 1920 = length-replicate {A = ℕ} 1920 0 in
-    let k : Kept w = record { good = good-start 64 g (m .store) n (omega arith) (zeros 1920) b (c .valid); screen = n; store = c .store } in
-    rw e (pass w k, rw (back w k))
+    let k = start-kept m q b e in
+    rw e (pass (startWorld (m .store)) k, rw (back (startWorld (m .store)) k))
+
+-- THE THEOREM, from a start that answers 0
+pub started-served : (m : Memory) (q : List ℕ) (cs : List Call) → Bytes (m .store) → startChecked m q ≡ 0 → BytesInAll cs
+    → Served (board (startOf m q .left) (startOf m q .queue)) cs
+unfolding startOf
+started-served m q cs b e h =
+    rw e (served-saved (startWorld (m .store)) (emptied q) cs (start-kept m q b e) (emptied-sound q (start-checks m q e .queue-size)) h)

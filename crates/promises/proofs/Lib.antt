@@ -1,0 +1,4 @@
+pub mod Refusals
+pub mod Lists
+pub mod Streams
+pub mod Bars

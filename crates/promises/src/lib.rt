@@ -1,0 +1,1 @@
+// What is promised of the four calls: definitions and theorems, no code.
