@@ -1,14 +1,14 @@
 -- THE PROMISE OVER EVERY LIST OF CALLS of the exported functions, demand 3 among it: pieces with any reply room, arrivals, takes and refused
 -- calls between, from a start or from any memory that passes the checks.
 -- Assumes nothing.
-use mathlib.Core.Path.{_≡_, _∙_, sym, ap, subst}
+use mathlib.Core.Path.{_≡_, sym, ap, subst}
 use mathlib.Core.List.{List}
 use mathlib.Core.Bool.{true}
 use Prim.Native.Nat.{ℕ, _+_, _%_}
 use Rattle.bar_ledger.specs.Claim.{Agrees}
 use Rattle.queue.specs.Record as queue-record
 use Rattle.record.specs.Reading.{decodeOf}
-use Rattle.rules.specs.World.{World, port}
+use Rattle.rules.specs.World.{port}
 use Rattle.rules.specs.Step.{step}
 use Rattle.rules.specs.Calls.{run, said}
 use Rattle.rules.specs.Events.{view, event}
@@ -21,7 +21,7 @@ use Rattle.calls.specs.List.{Board, board}
 use Rattle.calls.proofs.Lists.{BytesInAll}
 use Rattle.calls.proofs.Demands.{ByteMemory, Served, calls-served, started-served}
 use Rattle.promises.specs.Made.{Made, MeetsAll, leftAll, allConsumed, allSent, callsOf}
-use Rattle.promises.proofs.Lists.{Same, same}
+use Rattle.promises.proofs.Lists.{same}
 
 pub record Promise (b : Board) (l : List Made) : Type 0 where
   -- the memory is what the bytes consumed leave, and what was sent is what they send: one stream, however it was cut

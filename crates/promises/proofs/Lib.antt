@@ -2,3 +2,4 @@ pub mod Refusals
 pub mod Lists
 pub mod Streams
 pub mod Bars
+pub mod Examples

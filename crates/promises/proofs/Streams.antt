@@ -8,12 +8,12 @@ use Rattle.queue.specs.Record as queue-record
 use Rattle.rules.specs.Calls.{run, said}
 use Rattle.rules.specs.Chunks.{Chunk, joined, EnoughAll}
 use Rattle.calls.specs.Memory.{Memory, checked, loaded, saved}
-use Rattle.calls.specs.List.{board, Call, pieces}
+use Rattle.calls.specs.List.{board, pieces}
 use Rattle.calls.proofs.Lists.{BytesInAll}
 use Rattle.calls.proofs.Demands.{ByteMemory, pieces-whole}
 use Rattle.promises.specs.Made.{Made, MeetsAll, leftAll, allConsumed, allSent, callsOf}
 use Rattle.promises.proofs.Lists.{same}
-use Rattle.promises.proofs.Bars.{Promise, promised}
+use Rattle.promises.proofs.Bars.{promised}
 
 pub record Whole (m : Memory) (q : List ℕ) (l : List Made) (ps : List Chunk) : Type 0 where
   pub consumed : allConsumed l ≡ joined ps
