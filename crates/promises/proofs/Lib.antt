@@ -3,3 +3,4 @@ pub mod Lists
 pub mod Streams
 pub mod Bars
 pub mod Examples
+pub mod Lost

@@ -3,8 +3,8 @@
 -- Assumes nothing.
 use mathlib.Core.Path.{_≡_}
 use mathlib.Core.List.{List, [], _∷_, _++_}
-use mathlib.Core.Bool.{false}
-use Prim.Native.Nat.{ℕ}
+use mathlib.Core.Bool.{false, cond}
+use Prim.Native.Nat.{ℕ, _+_}
 use lib.Dec.{eqb}
 use lib.ListN.{length, take}
 use Rattle.calls.specs.Memory.{Memory, checked}
@@ -71,3 +71,14 @@ callsOf (fed p r c ∷ l) = feeds p (length r) ∷ callsOf l
 callsOf (arrived x s ∷ l) = arrives x ∷ callsOf l
 callsOf (handed s ∷ l) = takes ∷ callsOf l
 callsOf (astray m p r c ∷ l) = callsOf l
+
+-- bytes dropped: arrivals that answered 7
+abbrev pub dropped : Made → ℕ
+dropped (fed p r c) = 0
+dropped (arrived x s) = cond (eqb (s .answer) 7) 1 0
+dropped (handed s) = 0
+dropped (astray m p r c) = 0
+
+unfoldable pub allDropped : List Made → ℕ
+allDropped [] = 0
+allDropped (c ∷ l) = dropped c + allDropped l
