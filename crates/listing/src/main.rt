@@ -1,4 +1,5 @@
 // Obeys the bytes of the standard input on a fresh display, and lists what they leave: black runs of each row, refusals, replies.
+use canvas::HEIGHT;
 use canvas::LENGTH;
 use canvas::WIDTH;
 use canvas::is_black;
@@ -7,9 +8,6 @@ use display::display_feed;
 use display::display_start;
 ghost use Prim.Native.Nat.{_≤_};
 ghost use lib.ListN.{length};
-
-// The glass's rows.
-const ROWS: u16 = 64;
 
 // Bytes of a piece, and room for all that they can send.
 const PIECE: usize = 4096;
@@ -72,7 +70,7 @@ fn show_row(glass: &[u8], y: u16) {
 fn show_glass(glass: &[u8]) {
     io::write_all(1, b"glass 240 64\n");
     let mut y = 0;
-    while y < ROWS {
+    while y < HEIGHT {
         show_row(glass, y);
         y += 1;
     }

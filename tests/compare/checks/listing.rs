@@ -67,6 +67,37 @@ fn sample() {
     assert_eq!(program(&[254, 120, 1, 2, 1, 4, 2]), expected);
 }
 
+/// The bytes of an example's first part: decimals, and text in quotes.
+fn example_bytes(sent: &str) -> Vec<u8> {
+    let mut bytes = Vec::new();
+    for (k, part) in sent.split('"').enumerate() {
+        if k % 2 == 1 {
+            bytes.extend(part.bytes());
+        } else {
+            bytes.extend(part.split_whitespace().map(|word| word.parse::<u8>().expect("a byte")));
+        }
+    }
+    bytes
+}
+
+/// Every example of the protocol's document, through the program and the reference.
+#[test]
+fn protocol_examples() {
+    let path = concat!(env!("CARGO_MANIFEST_DIR"), "/../../docs/PROTOCOL.md");
+    let text = std::fs::read_to_string(path).expect("docs/PROTOCOL.md");
+    let font = built_in_font();
+    let mut count = 0;
+    for block in text.split("```example\n").skip(1) {
+        let block = block.split("```").next().unwrap();
+        let (sent, expected) = block.split_once("\n--\n").expect("bytes, --, listing");
+        let bytes = example_bytes(sent);
+        assert_eq!(program(&bytes), expected, "the program, of {sent}");
+        assert_eq!(listing_of_stream(&font, &bytes), expected, "the reference, of {sent}");
+        count += 1;
+    }
+    assert!(count >= 32, "only {count} examples were found");
+}
+
 #[test]
 fn empty_input() {
     assert_eq!(program(&[]), "glass 240 64\nrefused 0 last 0\nreplies\n");
