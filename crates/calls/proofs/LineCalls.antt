@@ -16,7 +16,7 @@ use Rattle.calls.specs.Memory.{screenRows}
 use Rattle.calls.specs.Start.{emptied}
 use Rattle.calls.specs.Line.{bothSound, flowIn, served, arriveCall, takeCall}
 
-queue-sound : (r q : List ℕ) → bothSound r q ≡ true → soundRecord q ≡ true
+pub queue-sound : (r q : List ℕ) → bothSound r q ≡ true → soundRecord q ≡ true
 queue-sound r q e = both (state-record.soundRecord screenRows r) (soundRecord q) e .1
 
 pub arrive-again : (r q : List ℕ) (b : ℕ) → bothSound r q ≡ true → soundRecord (arriveCall r q b .queue) ≡ true

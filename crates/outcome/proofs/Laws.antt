@@ -117,10 +117,6 @@ pub shows-on-refused : (n : ℕ) {h : ℕ} {rule : World → Ruled} {st : State}
     → (height g ≡ h → rule (world g s st) ≡ refused n []) → ShowsOn h rule st g g s r
 shows-on-refused n f e = record { came = λ t. came-refused _ _ _ _ n _ (e t) f }
 
-pub shows-on-done : {h : ℕ} {rule : World → Ruled} {st : State} {g g' s : List ℕ} {r : Outcome} (st' : State) → r ≡ doneOf st'
-    → (height g ≡ h → rule (world g s st) ≡ quietly (world g' s st')) → ShowsOn h rule st g g' s r
-shows-on-done st' f e = record { came = λ t. came-done _ _ _ st' _ _ (e t) f }
-
 -- ---- an outcome made of a state that a call made
 
 pub done-with : {n st : State} {r : Outcome} → n ≡ st → r ≡ doneOf n → r ≡ doneOf st

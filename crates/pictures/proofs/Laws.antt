@@ -1,6 +1,6 @@
 -- The rules of these commands, each way by itself.
 -- Assumes nothing.
-use mathlib.Core.Path.{_≡_, _∙_, refl, sym}
+use mathlib.Core.Path.{_≡_}
 use mathlib.Core.Bool.{Bool, true, false, not, _&&_}
 use mathlib.Core.List.{List, []}
 use Prim.Native.Nat.{ℕ, _+_, _<_, _≤_}
@@ -14,6 +14,7 @@ use Rattle.directory.specs.Directory.{findOf}
 use Rattle.fonts.specs.declared.Check.{Check}
 use Rattle.fonts.specs.declared.Check.the-variants.{Good, Malformed}
 use Rattle.fonts.specs.Checks.{checkOf}
+use Rattle.fonts.proofs.Laws.{good-is, malformed-is}
 use Rattle.fonts.specs.Bitmaps.{bitmapWidth, bitmapHeight, isBitmap}
 use Rattle.bitmap.specs.Bitmaps.{packedBox, inlineByte}
 use Rattle.state.specs.declared.Phase.the-variants.{Idle, Inline}
@@ -26,23 +27,15 @@ use Rattle.outcome.specs.declared.Outcome.{Outcome}
 use Rattle.outcome.specs.Outcome.{inPhaseOf}
 use Rattle.outcome.specs.Contract.{Paints, Shows}
 
-good-is : (t : Bool) → checkOf t ≡ Good → t ≡ true
-good-is true e = refl
-good-is false e = cc
-
-malformed-is : (t : Bool) → checkOf t ≡ Malformed → t ≡ false
-malformed-is true e = cc
-malformed-is false e = refl
-
 module _ (g s : List ℕ) (st : State) (f : List ℕ) (x y : ℕ) (c : Check) (checked : c ≡ checkOf (isBitmap f)) where
   pub bitmap-23 : c ≡ Malformed → bitmapIn (world g s st) f x y ≡ refused 23 []
   unfolding bitmapIn
-  bitmap-23 e = rw (malformed-is (isBitmap f) (sym checked ∙ e))
+  bitmap-23 e = rw (malformed-is c (isBitmap f) checked e)
 
   pub bitmap-done : (g' bits : List ℕ) (v h : ℕ) → c ≡ Good → bits ≡ drop 2 f → v ≡ bitmapWidth f → h ≡ bitmapHeight f → g' ≡ packedBox x y v h bits g
       → bitmapIn (world g s st) f x y ≡ quietly (world g' s st)
   unfolding bitmapIn
-  bitmap-done g' bits v h e d dv dh o = rw (good-is (isBitmap f) (sym checked ∙ e), o, d, dv, dh)
+  bitmap-done g' bits v h e d dv dh o = rw (good-is c (isBitmap f) checked e, o, d, dv, dh)
 
 pub show-22 : (w : World) (n x y : ℕ) (f : Found) → f ≡ findOf (w .store) 2 n → f ≡ Nothing → showBitmap w n x y ≡ refused 22 []
 unfolding showBitmap bitmapAt

@@ -10,24 +10,19 @@ use Rattle.pixels.proofs.Tests.{by-test}
 use Rattle.queue.specs.declared.Queue.{Queue}
 use Rattle.queue.specs.declared.Flow.{Flow}
 use Rattle.queue.specs.Queue.{stored, counted, advanced, arriveOf, takeOf}
-use Rattle.queue.specs.Record.{soundRecord, decodeOf}
+use Rattle.queue.specs.Record.{decodeOf}
 use Rattle.queue.proofs.Cases.{arrive-cases, take-cases}
 use Rattle.queue.proofs.Contents.{arrival-sound, take-sound}
 use Rattle.queue.proofs.Round.{decode-encode, decoded-sound}
-use Rattle.record.specs.Record as state-record
-use Rattle.record.proofs.Same.{both}
-use Rattle.calls.specs.Memory.{screenRows}
-use Rattle.calls.specs.Line.{Served, bothSound, flowIn, arrived, handed, arriveCall, takeCall}
+use Rattle.calls.specs.Line.{Served, bothSound, flowIn, arriveCall, takeCall}
 use Rattle.calls.specs.List.{Board, board}
+use Rattle.calls.proofs.LineCalls.{queue-sound}
 use Rattle.promises.specs.Made.{Made, fed, astray, MeetsAll, leftAll, allDropped}
 use Rattle.promises.specs.Made as made
 
 -- the count in a queue record
 abbrev pub lost : List ℕ → ℕ
 lost q = decodeOf q .lost
-
-queue-sound : (st q : List ℕ) → bothSound st q ≡ true → soundRecord q ≡ true
-queue-sound st q e = both (state-record.soundRecord screenRows st) (soundRecord q) e .1
 
 arrived-lost : (k : Queue) (f : Flow) (b : ℕ) → arriveOf k f b .queue .lost % 65536 ≡ (k .lost + cond (eqb (arriveOf k f b .answer) 7) 1 0) % 65536
 unfolding stored counted

@@ -1,7 +1,6 @@
 -- The rules of text, each way by itself.
 -- Assumes nothing.
-use mathlib.Core.Path.{_≡_, _∙_, refl, sym}
-use mathlib.Core.Bool.{Bool, true, false}
+use mathlib.Core.Path.{_≡_, _∙_}
 use mathlib.Core.List.{List, []}
 use native.Mathlib.Nat.{mul-le-mul}
 use Prim.Native.Nat.{ℕ, _+_, _-_, _*_, _<_, _≤_}
@@ -14,6 +13,7 @@ use Rattle.directory.specs.Directory.{findOf}
 use Rattle.fonts.specs.declared.Check.{Check}
 use Rattle.fonts.specs.declared.Check.the-variants.{Good, Malformed}
 use Rattle.fonts.specs.Checks.{checkOf}
+use Rattle.fonts.proofs.Laws.{good-is, malformed-is}
 use Rattle.fonts.specs.Fonts.{isFont, nominalWidth, heightOf}
 use Rattle.builtin_font.specs.Table.{table}
 use Rattle.state.specs.declared.State.{State}
@@ -25,14 +25,6 @@ use Rattle.outcome.specs.Outcome.{putTextOf}
 use Rattle.outcome.specs.Contract.{SetsOn, StoresOn, PaintsOn, ShowsOn}
 
 -- ---- the font of a number
-
-good-is : (t : Bool) → checkOf t ≡ Good → t ≡ true
-good-is true e = refl
-good-is false e = cc
-
-malformed-is : (t : Bool) → checkOf t ≡ Malformed → t ≡ false
-malformed-is true e = cc
-malformed-is false e = refl
 
 module _ (h : ℕ) (s : List ℕ) (n : ℕ) where
   pub open-built-in : (l : List ℕ) → n ≡ 1 → l ≡ table → openFont h s n ≡ opened l
@@ -47,11 +39,11 @@ module _ (h : ℕ) (s : List ℕ) (n : ℕ) where
     module _ (p a z : ℕ) (l : List ℕ) (c : Check) (there : f ≡ At p a z) (lent : l ≡ take z (drop a s)) (checked : c ≡ checkOf (isFont h l)) where
       pub open-23 : c ≡ Malformed → openFont h s n ≡ shut 23
       unfolding openFont openedAt
-      open-23 e = rw (ne-eqb n 1 other, ← lookup, there, ← lent, malformed-is (isFont h l) (sym checked ∙ e))
+      open-23 e = rw (ne-eqb n 1 other, ← lookup, there, ← lent, malformed-is c (isFont h l) checked e)
 
       pub open-good : c ≡ Good → openFont h s n ≡ opened l
       unfolding openFont openedAt
-      open-good e = rw (ne-eqb n 1 other, ← lookup, there, ← lent, good-is (isFont h l) (sym checked ∙ e))
+      open-good e = rw (ne-eqb n 1 other, ← lookup, there, ← lent, good-is c (isFont h l) checked e)
 
 -- ---- choosing it
 
