@@ -9,11 +9,13 @@ use lib.Dec.{eqb}
 use lib.ListN.{length, getD, drop, List·getD-eq-default}
 use lib.Seq.{drop-drop}
 use borrow.Author.Tests.{eqb-true}
-use Rattle.fonts.specs.declared.Glyph.the-variants.{At}
 use Rattle.fonts.specs.Checks.{within}
 use Rattle.fonts.specs.Bitmaps.{packedBytes}
-use Rattle.fonts.specs.Fonts.{nominalWidth, heightOf, firstOf, lastOf, offsetAt, widthAt, isEntry, areEntries, isFont, glyphOf}
-use Rattle.fonts.proofs.Laws.{glyph-there, font-taller}
+use Rattle.fonts.specs.Fonts.{nominalWidth, heightOf, firstOf, lastOf, offsetAt, widthAt, isEntry, areEntries, isFont}
+use Rattle.fonts.proofs.Laws.{font-taller}
+use Rattle.opened_font.specs.declared.Glyph.the-variants.{At}
+use Rattle.opened_font.specs.Glyphs.{glyphOf}
+use Rattle.opened_font.proofs.Laws.{glyph-there}
 use Rattle.builtin_font.specs.Table.{table}
 use Rattle.builtin_font.specs.Shapes.{fiveBytes, bitsAt, shapeAt, spareAt}
 use Rattle.builtin_font.proofs.Tests.{and-left, and-right, allBelow, below, absent, distinct, places}
@@ -128,10 +130,10 @@ only-blank k h e = different k 0 h (omega arith) (e ∙ sym blank)
 
 -- ---- the characters
 
-pub glyph-of : (c : ℕ) → 32 ≤ c → c ≤ 126 → glyphOf table c ≡ At (289 + 5 * (c - 32)) 5
+pub glyph-of : (c : ℕ) → 32 ≤ c → c ≤ 126 → glyphOf table c ≡ At (289 + 5 * (c - 32)) 5 7
 glyph-of c h k =
     let r = right-at (c - 32) (omega arith) in
     let a : firstOf table ≤ c = omega (arith, first-is) in
     let b : c ≤ lastOf table = omega (arith, last-is) in
-    let g : glyphOf table c ≡ At (offsetAt table (c - 32)) (widthAt table (c - 32)) = rw first-is at (glyph-there table c a b) in
-    g ∙ rw (r .offset, r .width)
+    let g : glyphOf table c ≡ At (offsetAt table (c - 32)) (widthAt table (c - 32)) (heightOf table) = rw first-is at (glyph-there table c a b) in
+    g ∙ rw (r .offset, r .width, height-is)

@@ -5,10 +5,9 @@ use mathlib.Core.Bool.{true, false}
 use mathlib.Core.List.{List, [], _∷_}
 use Prim.Native.Nat.{ℕ}
 use lib.ListN.{take}
-use Rattle.fonts.specs.declared.Glyph.the-variants.{At, Missing}
 use Rattle.fonts.specs.Checks.{within}
 use Rattle.fonts.specs.Bitmaps.{packedBytes, isBitmap}
-use Rattle.fonts.specs.Fonts.{offsetAt, widthAt, isEntry, areEntries, isFont, glyphOf}
+use Rattle.fonts.specs.Fonts.{offsetAt, widthAt, entryOf, isEntry, areEntries, isFont}
 
 -- characters 65 and 66, 5 high: 3 wide at 10 and 4 wide at 12
 abbrev pub small : List ℕ
@@ -28,13 +27,9 @@ pub small-cut : isFont 5 (take 14 small) ≡ false
 unfolding isFont areEntries isEntry offsetAt widthAt packedBytes within
 small-cut = refl
 
-pub small-glyph : glyphOf small 66 ≡ At 12 4
-unfolding glyphOf offsetAt widthAt
-small-glyph = refl
-
-pub small-missing : glyphOf small 67 ≡ Missing
-unfolding glyphOf
-small-missing = refl
+pub small-entry : entryOf small 1 ≡ record { offset = 12; width = 4 }
+unfolding entryOf offsetAt widthAt
+small-entry = refl
 
 -- 5 by 4 in 20 bits
 pub bits : isBitmap (5 ∷ 4 ∷ 252 ∷ 99 ∷ 240 ∷ []) ≡ true

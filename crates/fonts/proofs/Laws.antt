@@ -1,4 +1,4 @@
--- What a good check means: each character of a good font has its glyph inside the file, and a good bitmap is its rows.
+-- What a good check means: each entry of a good font has its rows inside the file, and a good bitmap is its rows.
 -- Assumes nothing.
 use mathlib.Core.Path.{_≡_, refl}
 use mathlib.Core.List.{List}
@@ -10,16 +10,15 @@ use lib.ListN.{length, drop, length-drop}
 use borrow.Author.Tests.{le-leb, lt-leb, leb-true, ltb-true, eqb-true}
 use Rattle.fonts.specs.declared.Check.{Check}
 use Rattle.fonts.specs.declared.Check.the-variants.{Good, Malformed}
-use Rattle.fonts.specs.declared.Glyph.the-variants.{At, Missing}
 use Rattle.fonts.specs.Checks.{within, checkOf}
 use Rattle.fonts.specs.Bitmaps.{packedBytes, bitmapWidth, bitmapHeight, isBitmap}
-use Rattle.fonts.specs.Fonts.{nominalWidth, heightOf, firstOf, lastOf, countOf, offsetAt, widthAt, isEntry, areEntries, isFont, glyphOf}
+use Rattle.fonts.specs.Fonts.{nominalWidth, heightOf, firstOf, lastOf, countOf, offsetAt, widthAt, isEntry, areEntries, isFont}
 
-and-left : (a b : Bool) → (a && b) ≡ true → a ≡ true
+pub and-left : (a b : Bool) → (a && b) ≡ true → a ≡ true
 and-left true b e = refl
 and-left false b e = e
 
-and-right : (a b : Bool) → (a && b) ≡ true → b ≡ true
+pub and-right : (a b : Bool) → (a && b) ≡ true → b ≡ true
 and-right true b e = e
 and-right false b e = let z : _≡_ {A = ℕ} 0 1 = cc in absurd (omega arith)
 
@@ -102,67 +101,6 @@ module _ (m : ℕ) (s : List ℕ) (h : isFont m s ≡ true) where
     where
       zero-plus : (k : ℕ) → 0 + k ≡ k
       zero-plus k = omega arith
-
--- ---- glyphs
-
--- the characters of a font, and no other, have a glyph
-pub glyph-there : (s : List ℕ) (c : ℕ) → firstOf s ≤ c → c ≤ lastOf s → glyphOf s c ≡ At (offsetAt s (c - firstOf s)) (widthAt s (c - firstOf s))
-unfolding glyphOf
-glyph-there s c h k = rw (le-leb (firstOf s) c h, le-leb c (lastOf s) k)
-
-pub glyph-before : (s : List ℕ) (c : ℕ) → c < firstOf s → glyphOf s c ≡ Missing
-unfolding glyphOf
-glyph-before s c h = rw (lt-leb (firstOf s) c h)
-
-pub glyph-behind : (s : List ℕ) (c : ℕ) → lastOf s < c → glyphOf s c ≡ Missing
-unfolding glyphOf
-glyph-behind s c h = rw (lt-leb c (lastOf s) h) (either (leb (firstOf s) c))
-  where
-    either : (b : Bool) → cond (b && false) (At (offsetAt s (c - firstOf s)) (widthAt s (c - firstOf s))) Missing ≡ Missing
-    either true = refl
-    either false = refl
-
-pub record Character (s : List ℕ) (c o w : ℕ) : Type 0 where
-  pub among : Within (firstOf s) (lastOf s) c
-  pub offset : o ≡ offsetAt s (c - firstOf s)
-  pub width : w ≡ widthAt s (c - firstOf s)
-
-same-offset : {a b o w : ℕ} → At a b ≡ At o w → o ≡ a
-same-offset e = cc
-
-same-width : {a b o w : ℕ} → At a b ≡ At o w → w ≡ b
-same-width e = cc
-
-from-test : (s : List ℕ) (c o w : ℕ) (t : Bool) → (leb (firstOf s) c && leb c (lastOf s)) ≡ t
-    → cond t (At (offsetAt s (c - firstOf s)) (widthAt s (c - firstOf s))) Missing ≡ At o w → Character s c o w
-from-test s c o w true t e =
-    record {
-      among = record {
-        from = leb-true (firstOf s) c (and-left (leb (firstOf s) c) (leb c (lastOf s)) t);
-        to = leb-true c (lastOf s) (and-right (leb (firstOf s) c) (leb c (lastOf s)) t);
-      };
-      offset = same-offset e;
-      width = same-width e;
-    }
-from-test s c o w false t e = let z : _≡_ {A = ℕ} 0 1 = cc in absurd (omega arith)
-
--- a glyph that is found is that of a character from the first to the last
-pub glyph-of-character : (s : List ℕ) (c o w : ℕ) → glyphOf s c ≡ At o w → Character s c o w
-unfolding glyphOf
-glyph-of-character s c o w e = from-test s c o w (leb (firstOf s) c && leb c (lastOf s)) refl e
-
--- A GLYPH FOUND IN A GOOD FONT is 1 to 240 wide, and its rows are inside the file
-pub glyph-inside : (m : ℕ) (s : List ℕ) → isFont m s ≡ true → (c o w : ℕ) → glyphOf s c ≡ At o w → Inside s o w
-glyph-inside m s h c o w e =
-    let g = glyph-of-character s c o w e in
-    let a = g .among .from in
-    let b = g .among .to in
-    rw (g .offset, g .width) (font m s h .entries (c - firstOf s) (omega arith))
-
--- and each of its characters, of which there is one at least, is found
-pub glyph-found : (m : ℕ) (s : List ℕ) → isFont m s ≡ true → (c : ℕ) → firstOf s ≤ c → c ≤ lastOf s
-    → (glyphOf s c ≡ At (offsetAt s (c - firstOf s)) (widthAt s (c - firstOf s))) × Inside s (offsetAt s (c - firstOf s)) (widthAt s (c - firstOf s))
-glyph-found m s h c a b = (glyph-there s c a b, glyph-inside m s h c _ _ (glyph-there s c a b))
 
 -- a good font is one for any taller screen
 pub font-taller : (m n : ℕ) (s : List ℕ) → m ≤ n → isFont m s ≡ true → isFont n s ≡ true

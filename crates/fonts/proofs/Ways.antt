@@ -9,11 +9,11 @@ use native.Mathlib.Nat.{mul-le-mul}
 use lib.Dec.{leb, eqb}
 use lib.ListN.{length, getD}
 use borrow.Author.Tests.{le-leb, lt-leb, le-ltb, lt-ltb}
-use Rattle.fonts.specs.declared.Glyph.the-variants.{At, Missing}
+use Rattle.fonts.specs.declared.Entry.{Entry}
 use Rattle.fonts.specs.declared.Check.the-variants.{Good, Malformed}
 use Rattle.fonts.specs.Checks.{within, checkOf}
 use Rattle.fonts.specs.Bitmaps.{packedBytes, bitmapWidth, bitmapHeight, isBitmap}
-use Rattle.fonts.specs.Fonts.{nominalWidth, heightOf, firstOf, lastOf, countOf, offsetAt, widthAt, isEntry, areEntries, isFont, glyphOf}
+use Rattle.fonts.specs.Fonts.{nominalWidth, heightOf, firstOf, lastOf, countOf, offsetAt, widthAt, entryOf, isEntry, areEntries, isFont}
 
 -- ---- a product of two bytes
 
@@ -37,7 +37,7 @@ pub within-rest : (m n : ℕ) → (n ≡ 0 → ⊥) → leb n m ≡ within 1 m n
 unfolding within
 within-rest m n h = rw (le-leb 1 n (omega arith))
 
--- ---- a glyph
+-- ---- an entry
 
 pub offset-is : (s : List ℕ) (k h l a b : ℕ) → h ≡ getD s (4 + 3 * k) 0 → l ≡ getD s (4 + 3 * k + 1) 0 → a ≡ h → b ≡ l → 256 * a + b ≡ offsetAt s k
 unfolding offsetAt
@@ -47,20 +47,9 @@ pub width-is : (s : List ℕ) (k b : ℕ) → b ≡ getD s (4 + 3 * k + 2) 0 →
 unfolding widthAt
 width-is s k b e = e
 
-pub glyph-below : (s : List ℕ) (c f : ℕ) → f ≡ firstOf s → c < f → Missing ≡ glyphOf s c
-unfolding glyphOf
-glyph-below s c f e h = rw (lt-leb (firstOf s) c (omega arith))
-
-pub glyph-above : (s : List ℕ) (c f l : ℕ) → f ≡ firstOf s → f ≤ c → l ≡ lastOf s → l < c → Missing ≡ glyphOf s c
-unfolding glyphOf
-glyph-above s c f l e h g k = rw (le-leb (firstOf s) c (omega arith), lt-leb c (lastOf s) (omega arith))
-
-pub glyph-at : (s : List ℕ) (c f l k o w : ℕ) → f ≡ firstOf s → f ≤ c → l ≡ lastOf s → c ≤ l → k ≡ c - f → o ≡ offsetAt s k → w ≡ widthAt s k
-    → At o w ≡ glyphOf s c
-unfolding glyphOf
-glyph-at s c f l k o w e h g i j p q =
-    let d : k ≡ c - firstOf s = omega arith in
-    rw (le-leb (firstOf s) c (omega arith), le-leb c (lastOf s) (omega arith), p, q, d)
+pub entry-is : (s : List ℕ) (k n o w : ℕ) → n ≡ k → o ≡ offsetAt s n → w ≡ widthAt s n → _≡_ {A = Entry} (record { offset = o; width = w }) (entryOf s k)
+unfolding entryOf
+entry-is s k n o w e f g = rw (f, g, e)
 
 -- ---- the entries
 

@@ -2,12 +2,11 @@
 -- file's start, high byte first, and its width. Rows are packed as a bitmap's. A byte behind the file's end reads as 0.
 -- Assumes nothing.
 use mathlib.Core.List.{List}
-use mathlib.Core.Bool.{Bool, true, cond, _&&_}
+use mathlib.Core.Bool.{Bool, true, _&&_}
 use Prim.Native.Nat.{ℕ, zero, suc, _+_, _-_, _*_}
 use lib.Dec.{leb}
 use lib.ListN.{length, getD}
-use Rattle.fonts.specs.declared.Glyph.{Glyph}
-use Rattle.fonts.specs.declared.Glyph.the-variants.{At, Missing}
+use Rattle.fonts.specs.declared.Entry.{Entry}
 use Rattle.fonts.specs.Checks.{within}
 use Rattle.fonts.specs.Bitmaps.{packedBytes}
 
@@ -34,6 +33,9 @@ offsetAt s k = 256 * getD s (4 + 3 * k) 0 + getD s (4 + 3 * k + 1) 0
 unfoldable pub widthAt : List ℕ → ℕ → ℕ
 widthAt s k = getD s (4 + 3 * k + 2) 0
 
+unfoldable pub entryOf : List ℕ → ℕ → Entry
+entryOf s k = record { offset = offsetAt s k; width = widthAt s k }
+
 -- its width is 1 to 240, and its rows are inside the file
 unfoldable pub isEntry : List ℕ → ℕ → Bool
 isEntry s k = within 1 240 (widthAt s k) && leb (offsetAt s k + packedBytes (widthAt s k) (heightOf s)) (length s)
@@ -53,13 +55,3 @@ isFont m s =
     && leb (firstOf s) (lastOf s)
     && leb (4 + 3 * countOf s) (length s)
     && areEntries (countOf s) 0 s
-
--- the glyph of character c
-unfoldable pub glyphOf : List ℕ → ℕ → Glyph
-glyphOf s c =
-    cond (leb (firstOf s) c && leb c (lastOf s)) (At (offsetAt s (c - firstOf s)) (widthAt s (c - firstOf s))) Missing
-
--- the refusal's number; 0 is none
-abbrev pub glyphNumber : Glyph → ℕ
-glyphNumber (At o w) = 0
-glyphNumber Missing = 28

@@ -4,7 +4,7 @@ ghost use mathlib.Core.Path.{_≡_};
 ghost use Prim.Native.Nat.{_≤_, _<_};
 ghost use Rattle.fonts.specs.Checks.{checkOf, within};
 ghost use Rattle.fonts.specs.Bitmaps.{packedBytes, bitmapWidth, bitmapHeight, isBitmap};
-ghost use Rattle.fonts.specs.Fonts.{nominalWidth, heightOf, firstOf, lastOf, offsetAt, widthAt, isEntry, areEntries, isFont, glyphOf};
+ghost use Rattle.fonts.specs.Fonts.{nominalWidth, heightOf, firstOf, lastOf, offsetAt, widthAt, entryOf, isEntry, areEntries, isFont};
 
 // A font: nominal width, height, first and last character, then an entry for each character.
 pub const HEADER: usize = 4;
@@ -22,10 +22,10 @@ pub enum Check {
     Malformed,
 }
 
-// The place of a character's rows in the file.
-pub enum Glyph {
-    At { offset: usize, width: u8 },
-    Missing,
+// Where the rows of a character are in the file, and how wide it is.
+pub struct Entry {
+    pub offset: usize,
+    pub width: u8,
 }
 
 fn wide(b: u8) -> usize
@@ -83,21 +83,13 @@ fn width_at(file: &[u8], k: usize) -> u8
     byte_at(file, HEADER + ENTRY * k + 2)
 }
 
-// Where the rows of a character are, and how wide it is.
-pub fn glyph_of(file: &[u8], character: u8) -> Glyph
-    ensures { λ r. ⌜ r ≡ glyphOf (now (file .entry)) character ⌝ }
+pub fn entry_at(file: &[u8], k: u8) -> Entry
+    ensures { λ r. ⌜ r ≡ entryOf (now (file .entry)) k ⌝ }
 {
-    let from = first(file);
-    if character < from {
-        return Glyph::Missing;
-    }
-    if last(file) < character {
-        return Glyph::Missing;
-    }
-    let k = wide(character - from);
-    Glyph::At {
-        offset: offset_at(file, k),
-        width: width_at(file, k),
+    let n = wide(k);
+    Entry {
+        offset: offset_at(file, n),
+        width: width_at(file, n),
     }
 }
 

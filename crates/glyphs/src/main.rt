@@ -1,7 +1,7 @@
 // Prints every glyph of the built-in font, 16 to a row: '#' is black, '.' white.
-use fonts::Glyph;
-use fonts::glyph_of;
 use fonts::height;
+use opened_font::Glyph;
+use opened_font::glyph_of;
 ghost use mathlib.Core.Path.{_≡_};
 ghost use Prim.Native.Nat.{_<_};
 
@@ -40,7 +40,12 @@ fn show_row(rows: &[u8], width: u8, y: u8) {
 
 fn show_glyph(font: &[u8], character: u8, y: u8) {
     let found = glyph_of(font, character);
-    let Glyph::At { offset, width } = found else {
+    let Glyph::At {
+        offset,
+        width,
+        height: _,
+    } = found
+    else {
         return;
     };
     if offset <= font.len() {

@@ -24,9 +24,9 @@ use Rattle.bar_ledger.specs.Ledger.{quiet, setUp, wrote, painted}
 use Rattle.directory.specs.declared.Found.{Found}
 use Rattle.directory.specs.declared.Found.the-variants.{At, Nothing}
 use Rattle.directory.specs.Directory.{findOf, entries, hasFile}
-use Rattle.fonts.specs.declared.Glyph.{Glyph}
-use Rattle.fonts.specs.declared.Glyph.the-variants
-use Rattle.fonts.specs.Fonts.{heightOf, glyphOf}
+use Rattle.opened_font.specs.declared.Glyph.{Glyph}
+use Rattle.opened_font.specs.declared.Glyph.the-variants
+use Rattle.opened_font.specs.Glyphs.{glyphOf}
 use Rattle.fonts.specs.Bitmaps.{isBitmap, bitmapWidth, bitmapHeight}
 use Rattle.state.specs.State.{barOf, barAt, stripAt, strip}
 use Rattle.rules.specs.World.{World, rows, port, panel}
@@ -139,17 +139,17 @@ box-painted u true g x y v f bits e = packed-footprint x y v f bits g
 box-painted u false g x y v f bits e =
     outside-then everywhere g (scrolled u g) _ (scroll-footprint u g) (outside-all (scrolled u g) _ (packed-footprint x y v f bits (scrolled u g) .long))
 
-glyph-at : (w : World) (f : List ℕ) (o v : ℕ) (p : Place) → Obeying w (placeEvent v (heightOf f) p) (glyphAt w f o v p)
+glyph-at : (w : World) (f : List ℕ) (o v t : ℕ) (p : Place) → Obeying w (placeEvent v t p) (glyphAt w f o v t p)
 unfolding glyphAt
-glyph-at w f o v nowhere = tt
-glyph-at w f o v (place x y up) =
-    fair-painted w _ refl refl refl (cond (eqb up 0) (box x (x + v) y (y + heightOf f)) everywhere)
-    (box-painted up (eqb up 0) (w .screen) x y v (heightOf f) (drop o f) refl)
+glyph-at w f o v t nowhere = tt
+glyph-at w f o v t (place x y up) =
+    fair-painted w _ refl refl refl (cond (eqb up 0) (box x (x + v) y (y + t)) everywhere)
+    (box-painted up (eqb up 0) (w .screen) x y v t (drop o f) refl)
 
 glyph-on : (w : World) (f : List ℕ) (g : Glyph) → Obeying w (glyphEvent w f g) (glyphOn w f g)
 unfolding glyphOn
 glyph-on w f the-variants.Missing = tt
-glyph-on w f (the-variants.At o v) = glyph-at w f o v (roomFor (rows w) v (heightOf f) (wrapped (port w .text) v (heightOf f)))
+glyph-on w f (the-variants.At o v t) = glyph-at w f o v t (roomFor (rows w) v t (wrapped (port w .text) v t))
 
 in-font : (w : World) (c : ℕ) (o : Opened) → Obeying w (fontEvent w c o) (characterIn w c o)
 unfolding characterIn

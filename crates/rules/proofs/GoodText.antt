@@ -14,9 +14,10 @@ use Rattle.pixels.proofs.Painting.{length-repaint, bytes-repaint}
 use Rattle.directory.specs.declared.Found.{Found}
 use Rattle.directory.specs.declared.Found.the-variants.{At, Nothing}
 use Rattle.directory.specs.Directory.{findOf}
-use Rattle.fonts.specs.declared.Glyph.{Glyph}
-use Rattle.fonts.specs.declared.Glyph.the-variants
-use Rattle.fonts.specs.Fonts.{isFont, heightOf, glyphOf}
+use Rattle.fonts.specs.Fonts.{isFont}
+use Rattle.opened_font.specs.declared.Glyph.{Glyph}
+use Rattle.opened_font.specs.declared.Glyph.the-variants
+use Rattle.opened_font.specs.Glyphs.{glyphOf}
 use Rattle.file_laws.proofs.Written.{and-both}
 use Rattle.state.specs.declared.Text.{Text}
 use Rattle.rules.specs.World.{World, rows, port}
@@ -109,18 +110,17 @@ module _ {n m : ℕ} {w : World} (p : Parts n m w) where
   raised-good : (up : ℕ) → ScreenGood n (movedUp up (w .screen))
   raised-good up = by-test (ScreenGood n) (eqb up 0) _ _ (λ _. p .screen) (λ _. painted-good (p .screen) _)
 
-  glyph-at : (f : List ℕ) (o v : ℕ) (q : Place) → Placed (rows w) v q → Leaves n m (glyphAt w f o v q)
+  glyph-at : (f : List ℕ) (o v t : ℕ) (q : Place) → Placed (rows w) v q → Leaves n m (glyphAt w f o v t q)
   unfolding glyphAt
-  glyph-at f o v nowhere h = omega arith
-  glyph-at f o v (place x y up) h =
+  glyph-at f o v t nowhere h = omega arith
+  glyph-at f o v t (place x y up) h =
       put-text (put-screen p (painted-good (raised-good up) _))
       (at-point (p .port-good .text) (x + v + port w .text .«char_space») y (omega (arith, h .0, p .port-good .text .fits .char-space)) (omega (arith, h .1, rows-are p, p .low)))
 
   glyph-on : (f : List ℕ) (g : Glyph) → Leaves n m (glyphOn w f g)
   unfolding glyphOn
   glyph-on f the-variants.Missing = omega arith
-  glyph-on f (the-variants.At o v) =
-      glyph-at f o v (roomFor (rows w) v (heightOf f) (wrapped (port w .text) v (heightOf f))) (room-placed (rows w) v (heightOf f) (wrapped (port w .text) v (heightOf f)))
+  glyph-on f (the-variants.At o v t) = glyph-at f o v t (roomFor (rows w) v t (wrapped (port w .text) v t)) (room-placed (rows w) v t (wrapped (port w .text) v t))
 
   in-font : (c : ℕ) (o : Opened) → Numbered o → Leaves n m (characterIn w c o)
   unfolding characterIn

@@ -16,7 +16,7 @@ use Rattle.bar_graph.specs.declared.Bar.{Bar}
 use Rattle.bar_graph.specs.Bars.{writeOf, writtenBar}
 use Rattle.bar_ledger.specs.Ledger.{Event, quiet, setUp, wrote, painted}
 use Rattle.bar_ledger.proofs.Keep.{Obeys, barBy}
-use Rattle.fonts.specs.declared.Glyph.the-variants
+use Rattle.opened_font.specs.declared.Glyph.the-variants
 use Rattle.state.specs.declared.BarSlot.{BarSlot}
 use Rattle.state.specs.State.{noBar, barSlot, barAt, withBars}
 use Rattle.rules.specs.World.{World, port, panel, withScreen, withPanel, Outcome, done, refused, refuseIf}

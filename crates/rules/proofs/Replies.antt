@@ -14,9 +14,9 @@ use Rattle.directory.specs.declared.Found.the-variants.{At, Nothing}
 use Rattle.directory.specs.Directory.{findOf, entries, hasFile}
 use Rattle.bitmap.specs.Bitmaps.{packedBox}
 use Rattle.fonts.specs.Bitmaps.{isBitmap, bitmapWidth, bitmapHeight}
-use Rattle.fonts.specs.declared.Glyph.{Glyph}
-use Rattle.fonts.specs.declared.Glyph.the-variants as glyph
-use Rattle.fonts.specs.Fonts.{glyphOf, heightOf}
+use Rattle.opened_font.specs.declared.Glyph.{Glyph}
+use Rattle.opened_font.specs.declared.Glyph.the-variants as glyph
+use Rattle.opened_font.specs.Glyphs.{glyphOf}
 use Rattle.state.specs.declared.Command.{Command}
 use Rattle.state.specs.declared.Command.the-variants.{Unknown, Clear, Home, SetPoint, SetPlace, WrapOn, WrapOff, ScrollOn, ScrollOff, ChooseFont, SetMetrics, SetColour, DrawPixel, DrawLine, ContinueLine, DrawFrame, FillRectangle, SetUpBar, WriteBar, SetUpStrip, ShiftStrip, ShowBitmap, DrawInline, UploadFont, UploadBitmap, DeleteFile, Purge, FlowOn, FlowOff, SetContrast, BacklightOn, BacklightOff, SetSerial}
 use Rattle.state.specs.declared.Phase.{Phase}
@@ -62,15 +62,15 @@ brief-tell false n o h = h
 
 -- ---- text
 
-glyph-brief : (w : World) (f : List ℕ) (o v : ℕ) (p : Place) → Brief (glyphAt w f o v p)
+glyph-brief : (w : World) (f : List ℕ) (o v t : ℕ) (p : Place) → Brief (glyphAt w f o v t p)
 unfolding glyphAt
-glyph-brief w f o v nowhere = mute _
-glyph-brief w f o v (place x y up) = silent _
+glyph-brief w f o v t nowhere = mute _
+glyph-brief w f o v t (place x y up) = silent _
 
 on-brief : (w : World) (f : List ℕ) (g : Glyph) → Brief (glyphOn w f g)
 unfolding glyphOn
 on-brief w f glyph.Missing = mute _
-on-brief w f (glyph.At o v) = glyph-brief w f o v (roomFor (rows w) v (heightOf f) (wrapped (port w .text) v (heightOf f)))
+on-brief w f (glyph.At o v t) = glyph-brief w f o v t (roomFor (rows w) v t (wrapped (port w .text) v t))
 
 in-brief : (w : World) (c : ℕ) (o : Opened) → Brief (characterIn w c o)
 unfolding characterIn

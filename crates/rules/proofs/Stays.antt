@@ -12,9 +12,9 @@ use Rattle.pixels.proofs.Tests.{by-test}
 use Rattle.directory.specs.declared.Found.{Found}
 use Rattle.directory.specs.declared.Found.the-variants.{At, Nothing}
 use Rattle.directory.specs.Directory.{findOf, entries, hasFile}
-use Rattle.fonts.specs.declared.Glyph.{Glyph}
-use Rattle.fonts.specs.declared.Glyph.the-variants
-use Rattle.fonts.specs.Fonts.{heightOf, glyphOf}
+use Rattle.opened_font.specs.declared.Glyph.{Glyph}
+use Rattle.opened_font.specs.declared.Glyph.the-variants
+use Rattle.opened_font.specs.Glyphs.{glyphOf}
 use Rattle.fonts.specs.Bitmaps.{isBitmap}
 use Rattle.file_laws.proofs.Written.{and-both}
 use Rattle.state.specs.declared.Command.{Command}
@@ -92,15 +92,15 @@ module _ {m : ℕ} (w : World) (good-store : StoreGood m (w .store)) (k n : ℕ)
   unfolding setPlace
   place-stays c r = placing c r (openFont (rows w) (w .store) (port w .text .font))
 
-  glyph-at : (f : List ℕ) (o v : ℕ) (q : Place) → Keeps (glyphAt w f o v q)
+  glyph-at : (f : List ℕ) (o v t : ℕ) (q : Place) → Keeps (glyphAt w f o v t q)
   unfolding glyphAt
-  glyph-at f o v nowhere = tt
-  glyph-at f o v (place x y up) = same
+  glyph-at f o v t nowhere = tt
+  glyph-at f o v t (place x y up) = same
 
   glyph-on : (f : List ℕ) (g : Glyph) → Keeps (glyphOn w f g)
   unfolding glyphOn
   glyph-on f the-variants.Missing = tt
-  glyph-on f (the-variants.At o v) = glyph-at f o v (roomFor (rows w) v (heightOf f) (wrapped (port w .text) v (heightOf f)))
+  glyph-on f (the-variants.At o v t) = glyph-at f o v t (roomFor (rows w) v t (wrapped (port w .text) v t))
 
   in-font : (c : ℕ) (o : Opened) → Keeps (characterIn w c o)
   unfolding characterIn

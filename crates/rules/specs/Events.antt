@@ -11,9 +11,10 @@ use Rattle.rectangle.specs.Frame.{frame}
 use Rattle.directory.specs.declared.Found.{Found}
 use Rattle.directory.specs.declared.Found.the-variants.{At, Nothing}
 use Rattle.directory.specs.Directory.{findOf}
-use Rattle.fonts.specs.declared.Glyph.{Glyph}
 use Rattle.fonts.specs.Bitmaps.{bitmapWidth, bitmapHeight}
-use Rattle.fonts.specs.Fonts.{heightOf, glyphOf}
+use Rattle.opened_font.specs.declared.Glyph.{Glyph}
+use Rattle.opened_font.specs.declared.Glyph.the-variants
+use Rattle.opened_font.specs.Glyphs.{glyphOf}
 use Rattle.bar_ledger.specs.Ledger.{View, Event, quiet, setUp, wrote, painted}
 use Rattle.state.specs.declared.Command.{Command}
 use Rattle.state.specs.declared.Command.the-variants.{Unknown, Clear, Home, SetPoint, SetPlace, WrapOn, WrapOff, ScrollOn, ScrollOff, ChooseFont, SetMetrics, SetColour, DrawPixel, DrawLine, ContinueLine, DrawFrame, FillRectangle, SetUpBar, WriteBar, SetUpStrip, ShiftStrip, ShowBitmap, DrawInline, UploadFont, UploadBitmap, DeleteFile, Purge, FlowOn, FlowOff, SetContrast, BacklightOn, BacklightOff, SetSerial}
@@ -25,7 +26,6 @@ use Rattle.rules.specs.World.{World, rows, port, panel, Outcome, done, r
 use Rattle.rules.specs.Fonts.{Opened, opened, shut, openFont}
 use Rattle.rules.specs.Text.{Place, place, nowhere, wrapped, roomFor}
 use Rattle.rules.specs.Step.{outcome, noBitmap}
-use Rattle.fonts.specs.declared.Glyph.the-variants
 
 -- the screen and the bars
 abbrev pub view : World → View
@@ -39,7 +39,7 @@ placeEvent v f (place x y up) = painted (cond (eqb up 0) (box x (x + v) y (y + f
 
 abbrev pub glyphEvent : World → List ℕ → Glyph → Event
 glyphEvent w f the-variants.Missing = quiet
-glyphEvent w f (the-variants.At o v) = placeEvent v (heightOf f) (roomFor (rows w) v (heightOf f) (wrapped (port w .text) v (heightOf f)))
+glyphEvent w f (the-variants.At o v t) = placeEvent v t (roomFor (rows w) v t (wrapped (port w .text) v t))
 
 abbrev pub fontEvent : World → ℕ → Opened → Event
 fontEvent w c (shut r) = quiet

@@ -8,9 +8,10 @@ use lib.ListN.{drop}
 use Rattle.pixels.specs.Framebuffer.{width}
 use Rattle.bitmap.specs.Bitmaps.{packedBox}
 use Rattle.scroll.specs.Scroll.{scrolled}
-use Rattle.fonts.specs.declared.Glyph.{Glyph}
-use Rattle.fonts.specs.declared.Glyph.the-variants.{At, Missing}
-use Rattle.fonts.specs.Fonts.{nominalWidth, heightOf, glyphOf}
+use Rattle.fonts.specs.Fonts.{nominalWidth, heightOf}
+use Rattle.opened_font.specs.declared.Glyph.{Glyph}
+use Rattle.opened_font.specs.declared.Glyph.the-variants.{At, Missing}
+use Rattle.opened_font.specs.Glyphs.{glyphOf}
 use Rattle.state.specs.declared.Text.{Text}
 use Rattle.rules.specs.World.{World, rows, port, withScreen, putText, Outcome, quietly, refused, refuseIf, arg}
 use Rattle.rules.specs.Fonts.{Opened, opened, shut, openFont}
@@ -92,15 +93,15 @@ abbrev pub movedUp : ℕ → List ℕ → List ℕ
 movedUp n g = cond (eqb n 0) g (scrolled n g)
 
 -- the box is painted, and x grows by width and character space: 29
-unfoldable pub glyphAt : World → List ℕ → ℕ → ℕ → Place → Outcome
-glyphAt w f o v nowhere = refused 29 []
-glyphAt w f o v (place x y up) =
-    quietly (putText (withScreen w (packedBox x y v (heightOf f) (drop o f) (movedUp up (w .screen)))) (atPoint (port w .text) (x + v + port w .text .«char_space») y))
+unfoldable pub glyphAt : World → List ℕ → ℕ → ℕ → ℕ → Place → Outcome
+glyphAt w f o v t nowhere = refused 29 []
+glyphAt w f o v t (place x y up) =
+    quietly (putText (withScreen w (packedBox x y v t (drop o f) (movedUp up (w .screen)))) (atPoint (port w .text) (x + v + port w .text .«char_space») y))
 
 -- 28
 unfoldable pub glyphOn : World → List ℕ → Glyph → Outcome
 glyphOn w f Missing = refused 28 []
-glyphOn w f (At o v) = glyphAt w f o v (roomFor (rows w) v (heightOf f) (wrapped (port w .text) v (heightOf f)))
+glyphOn w f (At o v t) = glyphAt w f o v t (roomFor (rows w) v t (wrapped (port w .text) v t))
 
 unfoldable pub characterIn : World → ℕ → Opened → Outcome
 characterIn w c (shut r) = refused r []

@@ -12,10 +12,10 @@ use files::purge;
 use files::store_byte;
 use files::unused;
 use fonts::Check;
-use fonts::Glyph;
 use fonts::check_bitmap;
 use fonts::check_font;
-use fonts::glyph_of;
+use opened_font::Glyph;
+use opened_font::glyph_of;
 use queue::Flow;
 use queue::Queue;
 use queue::arrive;
@@ -381,11 +381,17 @@ fn show_glyph(name: &[u8], f: &[u8], character: u8) {
     say(name);
     match found {
         Glyph::Missing => say(b": missing\n"),
-        Glyph::At { offset, width } => {
+        Glyph::At {
+            offset,
+            width,
+            height,
+        } => {
             say(b": at ");
             say_number(offset);
             say(b", width ");
             say_number(width as usize);
+            say(b", height ");
+            say_number(height as usize);
             say(b"\n");
         }
     }

@@ -12,9 +12,9 @@ use Rattle.file_laws.proofs.Written.{and-both}
 use Rattle.pixels.specs.Framebuffer.{width, height}
 use Rattle.bitmap.specs.Bitmaps.{packedBox}
 use Rattle.scroll.specs.Scroll.{scrolled}
-use Rattle.fonts.specs.declared.Glyph.{Glyph}
-use Rattle.fonts.specs.declared.Glyph.the-variants.{At as GlyphAt, Missing}
-use Rattle.fonts.specs.Fonts.{heightOf, glyphOf}
+use Rattle.opened_font.specs.declared.Glyph.{Glyph}
+use Rattle.opened_font.specs.declared.Glyph.the-variants.{At as GlyphAt, Missing}
+use Rattle.opened_font.specs.Glyphs.{glyphOf}
 use Rattle.state.specs.declared.State.{State}
 use Rattle.state.specs.declared.Text.{Text}
 use Rattle.rules.specs.World.{world, quietly, refused}
@@ -115,13 +115,13 @@ module _ (g s : List ℕ) (st : State) (h b : ℕ) (l : List ℕ) (q : Glyph) (t
   unfolding characterIn glyphOn
   draw-28 e = rw (← glyph, e)
 
-  module _ (o v f : ℕ) (c : Place) (there : q ≡ GlyphAt o v) (high : f ≡ heightOf l) (found : c ≡ placeOf (roomFor h v f (wrapped (st .port .text) v f))) where
+  module _ (o v f : ℕ) (c : Place) (there : q ≡ GlyphAt o v f) (found : c ≡ placeOf (roomFor h v f (wrapped (st .port .text) v f))) where
     pub draw-29 : c ≡ Nowhere → characterIn (world g s st) b (opened l) ≡ refused 29 []
     unfolding characterIn glyphOn glyphAt
-    draw-29 e = rw (← glyph, there, tall, ← high, nowhere-is (roomFor h v f (wrapped (st .port .text) v f)) (sym found ∙ e))
+    draw-29 e = rw (← glyph, there, tall, nowhere-is (roomFor h v f (wrapped (st .port .text) v f)) (sym found ∙ e))
 
     pub draw-done : (x y u a d : ℕ) (g' g'' bits : List ℕ) → a ≡ v → d ≡ st .port .text .«char_space» → c ≡ At x y u → g' ≡ movedUp u g → bits ≡ drop o l → g'' ≡ packedBox x y v f bits g'
         → characterIn (world g s st) b (opened l) ≡ quietly (world g'' s (putTextOf st (atPoint (st .port .text) (x + a + d) y)))
     unfolding characterIn glyphOn glyphAt
     draw-done x y u a d g' g'' bits ea ed e up cut paint =
-        rw (← glyph, there, tall, ← high, at-is (roomFor h v f (wrapped (st .port .text) v f)) x y u (sym found ∙ e), paint, up, cut, high, ea, ed)
+        rw (← glyph, there, tall, at-is (roomFor h v f (wrapped (st .port .text) v f)) x y u (sym found ∙ e), paint, up, cut, ea, ed)

@@ -8,11 +8,11 @@ use directory::find;
 use directory::part;
 use directory::rest;
 use fonts::Check;
-use fonts::Glyph;
 use fonts::check_font;
-use fonts::glyph_of;
 use fonts::height;
 use fonts::nominal_width;
+use opened_font::Glyph;
+use opened_font::glyph_of;
 use outcome::MALFORMED;
 use outcome::NO_CHARACTER;
 use outcome::NO_FILE;
@@ -266,15 +266,19 @@ fn move_up(screen: &mut [u8], rows: u16)
     }
 }
 
-// A character of a font.
+// A character of a font, which is opened for it.
 fn draw_in(screen: &mut [u8], state: State, height: u8, file: &[u8], byte: u8) -> Outcome
     ensures { λ r. ⌜ PaintsOn height (λ w. characterIn w byte (opened (now (file .entry)))) state (now (screen .entry)) (now (screen .exit)) r ⌝ }
 {
     let glyph = glyph_of(file, byte);
-    let Glyph::At { offset, width } = glyph else {
+    let Glyph::At {
+        offset,
+        width,
+        height: tall,
+    } = glyph
+    else {
         return refused(state, NO_CHARACTER);
     };
-    let tall = fonts::height(file);
     let mut text = state.port.text;
     let place = place_for(text, width, tall, height);
     let Place::At { x, y, up } = place else {

@@ -20,9 +20,6 @@ refused-requires c κs = search needs
 returns : tie.Need-returns
 returns c = paints-on-refused 28 (c .refused .ensures) (λ s t. draw-28 _ _ _ _ _ _ _ t (c .before .before .before .glyph-of .ensures) (search needs))
 
-height-requires : tie.Need-height-requires
-height-requires c κs = search needs
-
 place-for-requires : tie.Need-place-for-requires
 place-for-requires c κs = search needs
 
@@ -36,7 +33,7 @@ refused-requires-2 : tie.Need-refused-requires-2
 refused-requires-2 c κs = search needs
 
 returns-2 : tie.Need-returns-2
-returns-2 c = paints-on-refused 29 (c .refused2 .ensures) (λ s t. draw-29 _ _ _ _ _ _ _ t (c .before .before .before .before .before .before .before .before .before .glyph-of .ensures) _ _ _ _ (c .before .before .before .before .before .before .before .glyph .given .1) (c .before .before .before .before .before .height .ensures) (c .before .before .before .place-for .ensures) (search needs))
+returns-2 c = paints-on-refused 29 (c .refused2 .ensures) (λ s t. draw-29 _ _ _ _ _ _ _ t (c .before .before .before .before .before .before .before .before .glyph-of .ensures) _ _ _ _ (c .before .before .before .before .before .before .glyph .given .1) (c .before .before .before .place-for .ensures) (search needs))
 
 move-up-requires : tie.Need-move-up-requires
 move-up-requires c κs = search needs
@@ -75,7 +72,7 @@ same-length : tie.Need-same-length
 same-length c = search needs
 
 returns-3 : tie.Need-returns-3
-returns-3 c = paints-on-done _ (done-with (c .before .put-text .ensures) (c .done .ensures)) (λ s t. draw-done _ _ _ _ _ _ _ t (c .before .before .before .before .before .before .before .before .before .before .before .before .before .before .before .before .before .before .before .before .before .before .glyph-of .ensures) _ _ _ _ (c .before .before .before .before .before .before .before .before .before .before .before .before .before .before .before .before .before .before .before .before .glyph .given .1) (c .before .before .before .before .before .before .before .before .before .before .before .before .before .before .before .before .before .before .height .ensures) (c .before .before .before .before .before .before .before .before .before .before .before .before .before .before .before .before .place-for .ensures) _ _ _ _ _ _ _ _ (c .before .before .before .word .ensures .0) (c .before .before .word2 .ensures .0) (c .before .before .before .before .before .before .before .before .before .before .before .before .before .before .place .given .1) (c .before .before .before .before .before .before .before .before .before .before .before .move-up .ensures) (c .before .before .before .before .before .before .before .before .rest .ensures) (c .before .before .before .before .before .before .paint-packed .ensures))
+returns-3 c = paints-on-done _ (done-with (c .before .put-text .ensures) (c .done .ensures)) (λ s t. draw-done _ _ _ _ _ _ _ t (c .before .before .before .before .before .before .before .before .before .before .before .before .before .before .before .before .before .before .before .before .before .glyph-of .ensures) _ _ _ _ (c .before .before .before .before .before .before .before .before .before .before .before .before .before .before .before .before .before .before .before .glyph .given .1) (c .before .before .before .before .before .before .before .before .before .before .before .before .before .before .before .before .place-for .ensures) _ _ _ _ _ _ _ _ (c .before .before .before .word .ensures .0) (c .before .before .word2 .ensures .0) (c .before .before .before .before .before .before .before .before .before .before .before .before .before .before .place .given .1) (c .before .before .before .before .before .before .before .before .before .before .before .move-up .ensures) (c .before .before .before .before .before .before .before .before .rest .ensures) (c .before .before .before .before .before .before .paint-packed .ensures))
 
 pub draw-in-spec : {M : Type 1} → statement M
 draw-in-spec =
@@ -86,7 +83,6 @@ draw-in-spec =
     enum-told
     refused-requires
     returns
-    height-requires
     place-for-requires
     enum-known-place
     enum-told-2
