@@ -14,24 +14,17 @@ use borrow.Rule.Slice.PartMut.{putMid, midOf}
 use Rattle.pixels.specs.Framebuffer.{bitOf, put}
 use Rattle.pixels.specs.Regions.{within, span, box, rectangle}
 use Rattle.pixels.proofs.Tests.{iff, and-one, and-two}
-use Rattle.pixels.proofs.Bits.{bit-zero}
+use Rattle.pixels.proofs.Bits.{bit-byte}
 use Rattle.pixels.proofs.Pictures.{Bytes}
 use Rattle.pixels.proofs.Painting.{put-same, put-off}
 use Rattle.pixels.proofs.Intervals.{within-iff, within-true, within-yes, within-none, within-after}
-use Rattle.pixels.proofs.Growth.{SpanPainted, span-start, span-step, RowsPainted, rows-start, rows-step}
+use Rattle.pixels.proofs.Growth.{SpanPainted, span-start, span-run, RowsPainted, rows-start, rows-step}
 use Rattle.canvas.specs.declared.Rows.{Rows}
 use Rattle.canvas.specs.Canvas.{RowsAre}
 use Rattle.canvas.proofs.Lent.{lent-box}
 use Rattle.bitmap.specs.Inline.{PlaceIs}
-use Rattle.bitmap.specs.Bitmaps.{packedBit, packed, packedBox, rowBytes, inlineColumn, inlineRow, inlinePixels, inlineBits, inlineByte}
-
-pub bit-in : (bits : List ℕ) (k : ℕ) → eqb (getD bits (k / 8) 0 / 2 ^ (7 - k % 8) % 2) 1 ≡ packedBit bits k
-unfolding packedBit bitOf
-bit-in bits k = refl
-
-pub bit-behind : (bits : List ℕ) (k : ℕ) → length bits ≤ k / 8 → false ≡ packedBit bits k
-unfolding packedBit
-bit-behind bits k h = sym (rw (List·getD-eq-default bits 0 {n = k / 8} h) (bit-zero (k % 8)))
+use Rattle.spans.specs.Bits.{packedBit, windowOf, bitsFrom, InCell}
+use Rattle.bitmap.specs.Bitmaps.{packed, packedBox, rowBytes, inlineColumn, inlineRow, inlinePixels, inlineBits, inlineByte}
 
 -- ---- a row
 
@@ -43,13 +36,15 @@ module _ {x1 x2 y w : ℕ} {bits g₀ : List ℕ} where
   pub row-start : {k : ℕ} → Bytes g₀ → k ≡ y * w → RowOfBits x1 x2 y w x1 k bits g₀ g₀
   row-start b e = record { at-bit = omega arith; span-is = span-start b }
 
-  pub row-step : {x k : ℕ} {g h : List ℕ} {c : Bool} → RowOfBits x1 x2 y w x k bits g₀ g → x < x2 → h ≡ put (λ u v. eqb u x && eqb v y) (λ u v. c) g
-      → c ≡ packedBit bits k → RowOfBits x1 x2 y w (x + 1) (k + 1) bits g₀ h
-  unfolding packed
-  row-step {x} {k} s l e f =
+  -- the bits of a byte of the row, eight or fewer of them
+  pub row-step : {x k e b : ℕ} {g h : List ℕ} → RowOfBits x1 x2 y w x k bits g₀ g → InCell x e → e ≤ x2 → b ≡ windowOf bits k
+      → h ≡ put (span x e y) (bitsFrom x b) g → RowOfBits x1 x2 y w e (k + (e - x)) bits g₀ h
+  unfolding packed bitsFrom windowOf
+  row-step {x} {k} {e} s c l eb d =
       record {
-        at-bit = omega (arith, s .at-bit, s .span-is .low);
-        span-is = span-step (s .span-is) l e (f ∙ rw sub-zero (ap (packedBit bits) (s .at-bit)));
+        at-bit = omega (arith, s .at-bit, s .span-is .low, c .some);
+        span-is = span-run (bitsFrom x _) (s .span-is) (omega (arith, c .some)) l d (λ u p q. rw (eb, sub-zero)
+            (bit-byte (λ i. packedBit bits (k + i)) (u - x) (omega (arith, c .one)) ∙ (let z : k + (u - x) ≡ y * w + (u - x1) = omega (arith, s .at-bit, s .span-is .low) in rw z)));
       }
 
 -- ---- the rows

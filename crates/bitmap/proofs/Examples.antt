@@ -6,7 +6,8 @@ use mathlib.Core.List.{List, [], _∷_}
 use Prim.Native.Nat.{ℕ, zero, suc, _+_, _*_, _/_}
 use Rattle.pixels.specs.Framebuffer.{Picture, bitOf}
 use Rattle.pixels.specs.Regions.{within}
-use Rattle.bitmap.specs.Bitmaps.{packedBit, packed, rowBytes, inlineColumn, inlineRow, inlinePixels}
+use Rattle.spans.specs.Bits.{packedBit}
+use Rattle.bitmap.specs.Bitmaps.{packed, rowBytes, inlineColumn, inlineRow, inlinePixels}
 
 -- columns x up to x + n of row y
 row : Picture → ℕ → ℕ → ℕ → List Bool

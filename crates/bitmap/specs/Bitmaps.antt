@@ -1,17 +1,13 @@
 -- Bitmaps of both kinds. Set bits are painted black, clear bits white, whatever the drawing colour.
 -- Assumes nothing.
-use mathlib.Core.Bool.{Bool, _&&_}
+use mathlib.Core.Bool.{_&&_}
 use mathlib.Core.List.{List}
 use Prim.Native.Nat.{ℕ, _+_, _-_, _*_, _/_, _%_}
-use lib.ListN.{getD}
 use Rattle.pixels.specs.Framebuffer.{Region, Picture, bitOf, put}
 use Rattle.pixels.specs.Regions.{span, box, rectangle}
+use Rattle.spans.specs.Bits.{packedBit}
 
 -- ---- packed: a glyph or a saved bitmap. Its rows follow on without gaps, the highest bit of a byte first
-
--- bit number k; behind the last byte all are clear
-unfoldable pub packedBit : List ℕ → ℕ → Bool
-packedBit bits k = bitOf (getD bits (k / 8) 0) (k % 8)
 
 -- rows of w bits from (x, y) on
 unfoldable pub packed : ℕ → ℕ → ℕ → List ℕ → Picture

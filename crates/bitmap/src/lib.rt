@@ -1,46 +1,35 @@
 // Bitmaps: packed ones (glyphs, saved bitmaps) and data in line. What lies beyond the framebuffer is clipped.
-use canvas::Colour;
 use canvas::WIDTH;
 use canvas::least;
-use canvas::plot;
 use canvas::rows_between;
+use spans::cell_end;
+use spans::paint_cell;
+use spans::window;
 ghost use mathlib.Core.Path.{_≡_};
 ghost use Prim.Native.Nat.{_*_, _≤_};
 ghost use Rattle.pixels.specs.Framebuffer.{put};
 ghost use Rattle.pixels.specs.Regions.{span, box};
 ghost use Rattle.bitmap.specs.Inline.{PlaceIs};
-ghost use Rattle.bitmap.specs.Bitmaps.{packedBit, packed, packedBox, inlineByte};
-
-// Bit number k, the highest bit of a byte first; behind the last byte all are clear.
-fn bit_at(bits: &[u8], k: usize) -> bool
-    ensures { λ r. ⌜ r ≡ packedBit (now (bits .entry)) k ⌝ }
-{
-    let at = k / 8;
-    if at < bits.len() {
-        return (bits[at] >> (7 - k % 8)) % 2 == 1;
-    }
-    false
-}
+ghost use Rattle.bitmap.specs.Bitmaps.{packed, packedBox, inlineByte};
 
 // Columns x1 up to, and not with, x2 of row y, from bit number `first` on.
 fn paint_row(rows: &mut [u8], x1: u16, x2: u16, y: u16, w: u8, first: usize, bits: &[u8])
-    requires { ⌜ (first ≡ y * w) × (first ≤ 255 * y) ⌝ }
+    requires { ⌜ (first ≡ y * w) × (first ≤ 255 * y) × (x2 ≤ 240) ⌝ }
     ensures { λ _. ⌜ now (rows .exit) ≡ put (span x1 x2 y) (packed x1 0 w (now (bits .entry))) (now (rows .entry)) ⌝ }
 {
     let mut x = x1;
     let mut k = first;
     while x < x2 {
-        let c = Colour {
-            black: bit_at(bits, k),
-        };
-        plot(rows, x, y, c);
-        x += 1;
-        k += 1;
+        let end = cell_end(x, x2);
+        paint_cell(rows, x, end, y, window(bits, k));
+        k += (end - x) as usize;
+        x = end;
     }
 }
 
 // Columns x1 up to, and not with, x2 of the first n rows that are lent, each row w bits further on.
 fn paint_rows(rows: &mut [u8], x1: u16, x2: u16, n: u16, w: u8, bits: &[u8])
+    requires { ⌜ x2 ≤ 240 ⌝ }
     ensures { λ _. ⌜ now (rows .exit) ≡ put (box x1 x2 0 n) (packed x1 0 w (now (bits .entry))) (now (rows .entry)) ⌝ }
 {
     let mut y = 0;

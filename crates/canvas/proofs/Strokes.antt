@@ -10,7 +10,7 @@ use lib.Dec.{eqb, ltb}
 use lib.Bits.{bitAnd, bitOr, and-le-l, or-lt}
 use lib.ListN.{length, getD, set}
 use borrow.Author.Tests.{eq-eqb, ne-eqb, lt-ltb, le-ltb}
-use Rattle.pixels.specs.Framebuffer.{On, bitOf, byteOf, cell, pixel, black, repaint, fill, rowStart, rowsEnd}
+use Rattle.pixels.specs.Framebuffer.{Picture, On, bitOf, byteOf, cell, pixel, black, repaint, put, fill, rowStart, rowsEnd}
 use Rattle.pixels.specs.Regions.{point}
 use Rattle.pixels.proofs.Bits.{byte-lt, byte-is, bit-byte, bit-or, bit-and, bit-not, bit-one}
 use Rattle.pixels.proofs.Pictures.{Bytes, set-is, pixel-behind}
@@ -41,18 +41,28 @@ paint-white b m t h k q =
     rw q (byte-is (bitAnd b (255 - m)) (λ j. cond (bitOf m j) false (bitOf b j)) (omega (arith, and-le-l b (255 - m)))
     (λ j l. bit-and b (255 - m) j ∙ rw (bit-not m j k l) (and-white (bitOf b j) (bitOf m j))))
 
-pub stamp-on : (g : List ℕ) (i m b : ℕ) (c : Bool) → Bytes g → i < length g → b ≡ paintedOf (getD g i 0) m c → set g i b ≡ fill (masked i m) c g
-unfolding pixel repaint paintedOf
-stamp-on g i m b c h l e =
-    rw e (set-is g i (byteOf (λ j. cond (bitOf m j) c (bitOf (getD g i 0) j))) (λ u v. cond (eqb (30 * v + u / 8) i && bitOf m (u % 8)) c (pixel g u v)) h
-    (byte-lt (λ j. cond (bitOf m j) c (bitOf (getD g i 0) j))) l
+-- a byte stored whose bits under the mask are q's
+pub set-masked : (g : List ℕ) (i m b : ℕ) (q : ℕ → Bool) → Bytes g → i < length g → b ≡ byteOf (λ j. cond (bitOf m j) (q j) (bitOf (getD g i 0) j))
+    → set g i b ≡ put (masked i m) (λ u v. q (u % 8)) g
+unfolding pixel repaint
+set-masked g i m b q h l e =
+    rw e (set-is g i (byteOf (λ j. cond (bitOf m j) (q j) (bitOf (getD g i 0) j))) (λ u v. cond (eqb (30 * v + u / 8) i && bitOf m (u % 8)) (q (u % 8)) (pixel g u v)) h
+    (byte-lt (λ j. cond (bitOf m j) (q j) (bitOf (getD g i 0) j))) l
     (λ u v on. elim (ℕ-discrete (30 * v + u / 8) i) [
-      | yes q ↦ rw (q, eq-eqb i i refl) (bit-byte (λ j. cond (bitOf m j) c (bitOf (getD g i 0) j)) (u % 8) (omega arith))
-      | no q ↦ rw (ne-eqb (30 * v + u / 8) i q)
+      | yes d ↦ rw (d, eq-eqb i i refl) (bit-byte (λ j. cond (bitOf m j) (q j) (bitOf (getD g i 0) j)) (u % 8) (omega arith))
+      | no d ↦ rw (ne-eqb (30 * v + u / 8) i d)
     ]))
 
+-- behind the framebuffer there is none
+pub masked-off : (g : List ℕ) (i m : ℕ) (p : Picture) → Bytes g → length g ≤ i → g ≡ put (masked i m) p g
+masked-off g i m p h l = put-off (masked i m) p g h (λ u v on. rw (ne-eqb (30 * v + u / 8) i (omega arith)))
+
+pub stamp-on : (g : List ℕ) (i m b : ℕ) (c : Bool) → Bytes g → i < length g → b ≡ paintedOf (getD g i 0) m c → set g i b ≡ fill (masked i m) c g
+unfolding paintedOf
+stamp-on g i m b c h l e = set-masked g i m b (λ j. c) h l e
+
 pub stamp-off : (g : List ℕ) (i m : ℕ) (c : Bool) → Bytes g → length g ≤ i → g ≡ fill (masked i m) c g
-stamp-off g i m c h l = put-off (masked i m) (λ u v. c) g h (λ u v on. rw (ne-eqb (30 * v + u / 8) i (omega arith)))
+stamp-off g i m c h l = masked-off g i m (λ u v. c) h l
 
 -- the mask of one bit is one pixel
 pub plot-on : (g g′ : List ℕ) (x y i : ℕ) (c : Bool) → x < 240 → i ≡ cell x y → g′ ≡ fill (masked i (128 / 2 ^ (x % 8))) c g → g′ ≡ fill (point x y) c g

@@ -44,7 +44,7 @@ fn painted(byte: u8, mask: u8, c: Colour) -> u8
 }
 
 // The number of the byte that holds column x of row y.
-fn cell(x: u16, y: u16) -> usize
+pub fn cell(x: u16, y: u16) -> usize
     ensures { λ r. ⌜ r ≡ cell x y ⌝ }
 {
     STRIDE * (y as usize) + (x / 8) as usize

@@ -5,7 +5,7 @@ use mathlib.Core.Bool.{Bool, true, false, _&&_, _||_, not}
 use Prim.Native.Nat.{ℕ, zero, suc, _+_, _-_, _*_, _/_, _%_, _^_, _<_, _≤_, min, max}
 use native.Mathlib.Omega.{arith}
 use native.Mathlib.Nat.{zero-div}
-use lib.Dec.{eqb}
+use lib.Dec.{eqb, leb}
 use lib.Bits.{bitAnd, bitOr, and-shr, or-shr, and-step, or-step}
 use Rattle.pixels.specs.Framebuffer.{digit, bitOf, byteOf}
 use Rattle.pixels.proofs.Tests.{agree}
@@ -123,4 +123,9 @@ bit-not m k h l = ap (λ (n : ℕ). bitOf (255 - n) k) (sym (byte-bit m h)) ∙ 
 -- the mask of bit k alone
 pub bit-one : (k j : ℕ) → k < 8 → j < 8 → bitOf (128 / 2 ^ k) j ≡ eqb j k
 unfolding bitOf
-bit-one = agree (λ k j. bitOf (128 / 2 ^ k) j) (λ k j. eqb j k) refl
+bit-one = agree 8 8 (λ k j. bitOf (128 / 2 ^ k) j) (λ k j. eqb j k) refl
+
+-- the mask of the bits from number k on
+pub bit-run : (k j : ℕ) → k < 9 → j < 8 → bitOf (255 / 2 ^ k) j ≡ leb k j
+unfolding bitOf
+bit-run = agree 9 8 (λ k j. bitOf (255 / 2 ^ k) j) (λ k j. leb k j) refl

@@ -11,7 +11,9 @@ use Rattle.pixels.specs.Framebuffer.{Picture, put, fill}
 use Rattle.pixels.specs.Regions.{within, point, span, box}
 use Rattle.pixels.proofs.Pictures.{Bytes}
 use Rattle.pixels.proofs.Painting.{put-same, put-region, put-off, put-put, length-repaint}
-use Rattle.pixels.proofs.Intervals.{within-none, within-more, within-iff, point-true}
+use Rattle.pixels.proofs.Tests.{and-one, and-two}
+use Rattle.pixels.proofs.Intervals.{within-none, within-more, within-join, within-iff, within-true, point-true}
+use borrow.Author.Tests.{eqb-true}
 
 -- one pixel of the picture p
 pub put-point : (x y : ℕ) (c : Bool) (p : Picture) (g : List ℕ) → c ≡ p x y → fill (point x y) c g ≡ put (point x y) p g
@@ -27,6 +29,17 @@ span-more x1 x y c p g h e =
     put-point x y c p (put (span x1 x y) p g) e ∙ put-put (span x1 x y) (point x y) p g
     ∙ put-region (λ u v. span x1 x y u v || point x y u v) (span x1 (x + 1) y) p g
     (λ u v on. sym (and-or-distrib-right (within x1 x u) (eqb u x) (eqb v y)) ∙ rw (within-more x1 x u h))
+
+-- columns x up to e after those up to x
+span-joined : (x1 x e y : ℕ) (p q : Picture) (g : List ℕ) → x1 ≤ x → x ≤ e → ((u : ℕ) → x ≤ u → u < e → q u y ≡ p u y)
+    → put (span x e y) q (put (span x1 x y) p g) ≡ put (span x1 e y) p g
+span-joined x1 x e y p q g h l f =
+    put-same (span x e y) (span x e y) q p (put (span x1 x y) p g) (λ u v on. refl)
+    (λ u v on t. let b = within-true x e u (and-one (within x e u) (eqb v y) t) in
+    let k = eqb-true v y (and-two (within x e u) (eqb v y) t) in rw k (f u (b .0) (b .1)))
+    ∙ put-put (span x1 x y) (span x e y) p g
+    ∙ put-region (λ u v. span x1 x y u v || span x e y u v) (span x1 e y) p g
+    (λ u v on. sym (and-or-distrib-right (within x1 x u) (within x e u) (eqb v y)) ∙ rw (within-join x1 x e u h l))
 
 -- a row painted up to column x, on the way from x1 to x2
 pub record SpanPainted (x1 x2 y x : ℕ) (p : Picture) (g₀ g : List ℕ) : Type 0 where
@@ -45,6 +58,14 @@ module _ {x1 x2 y : ℕ} {p : Picture} {g₀ : List ℕ} where
     where
       all : h ≡ put (span x1 (x + 1) y) p g₀
       all = e ∙ ap (fill (point x y) c) (s .shows) ∙ span-more x1 x y c p g₀ (s .low) f
+
+  -- the same of several columns at once, whose picture agrees with p
+  pub span-run : {x e : ℕ} {g h : List ℕ} (q : Picture) → SpanPainted x1 x2 y x p g₀ g → x ≤ e → e ≤ x2 → h ≡ put (span x e y) q g
+      → ((u : ℕ) → x ≤ u → u < e → q u y ≡ p u y) → SpanPainted x1 x2 y e p g₀ h
+  span-run {x} {e} {g} {h} q s l m d f = record { low = omega (arith, s .low); high = omega arith; long = ap length all ∙ length-repaint _ g₀; shows = all }
+    where
+      all : h ≡ put (span x1 e y) p g₀
+      all = d ∙ ap (put (span x e y) q) (s .shows) ∙ span-joined x1 x e y p q g₀ (s .low) l f
 
   pub span-end : {x : ℕ} {g : List ℕ} → SpanPainted x1 x2 y x p g₀ g → x2 ≤ x → g ≡ put (span x1 x2 y) p g₀
   span-end {x} s l =

@@ -43,6 +43,16 @@ within-more a b n h =
       ])
     ]
 
+-- an interval and the one behind it
+pub within-join : (a b c n : ℕ) → a ≤ b → b ≤ c → (within a b n || within b c n) ≡ within a c n
+within-join a b c n h k =
+    elim (decLt n b) [
+      | yes l ↦ rw (within-before b c n l) (or-false (within a b n) ∙ iff (within a b n) (within a c n)
+          (λ e. within-yes a c n (within-true a b n e .0) (omega arith)) (λ e. within-yes a b n (within-true a c n e .0) l))
+      | no l ↦ rw (within-after a b n (omega arith)) (iff (within b c n) (within a c n)
+          (λ e. within-yes a c n (omega arith) (within-true b c n e .1)) (λ e. within-yes b c n (omega arith) (within-true a c n e .1)))
+    ]
+
 -- two intervals that hold the same of two numbers
 pub within-iff : (a b n a′ b′ n′ : ℕ) → (a ≤ n → n < b → (a′ ≤ n′) × (n′ < b′)) → (a′ ≤ n′ → n′ < b′ → (a ≤ n) × (n < b)) → within a b n ≡ within a′ b′ n′
 within-iff a b n a′ b′ n′ f h =

@@ -58,7 +58,7 @@ same true false e = sym e
 same false true e = e
 same false false e = refl
 
--- two tables of eight by eight agree
-pub agree : (f h : ℕ → ℕ → Bool) → all 8 (λ k. all 8 (λ j. Bool·beq (f k j) (h k j))) ≡ true → (k j : ℕ) → k < 8 → j < 8 → f k j ≡ h k j
-agree f h e k j hk hj =
-    same (f k j) (h k j) (all-at 8 (λ j. Bool·beq (f k j) (h k j)) (all-at 8 (λ k. all 8 (λ j. Bool·beq (f k j) (h k j))) e k hk) j hj)
+-- two tables of m by n agree
+pub agree : (m n : ℕ) (f h : ℕ → ℕ → Bool) → all m (λ k. all n (λ j. Bool·beq (f k j) (h k j))) ≡ true → (k j : ℕ) → k < m → j < n → f k j ≡ h k j
+agree m n f h e k j hk hj =
+    same (f k j) (h k j) (all-at n (λ j. Bool·beq (f k j) (h k j)) (all-at m (λ k. all n (λ j. Bool·beq (f k j) (h k j))) e k hk) j hj)

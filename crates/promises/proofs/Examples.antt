@@ -13,7 +13,8 @@ use Rattle.pixels.proofs.Tests.{all, all-at, same}
 use Rattle.pixels.proofs.Painting.{pixel-put, length-repaint}
 use Rattle.line.specs.Line.{line, towards, rise, lineX, lineY}
 use Rattle.bar_graph.specs.Bars.{depth, lengthOf, heldTo, stripe, writeOf}
-use Rattle.bitmap.specs.Bitmaps.{packedBit, packed}
+use Rattle.spans.specs.Bits.{packedBit}
+use Rattle.bitmap.specs.Bitmaps.{packed}
 use Rattle.fonts.specs.Bitmaps.{packedBytes}
 use Rattle.directory.specs.Directory as directory
 use Rattle.state.specs.State.{barOf}

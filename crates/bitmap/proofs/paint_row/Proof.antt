@@ -1,3 +1,4 @@
+use native.Mathlib.Omega.{arith}
 use Rattle.pixels.proofs.Growth.{span-end}
 use borrow.Author.Needs.{needs}
 use Prim.Native.Nat.{_-_}
@@ -14,23 +15,29 @@ abbrev μ-loop : tie.MeasureT-loop
 loop-holds : tie.Need-loop-holds Inv-loop μ-loop
 loop-holds c = row-start (λ i. c .before .slice-known .given i .fits) (search needs)
 
-bit-at-requires : tie.Need-bit-at-requires Inv-loop μ-loop
-bit-at-requires c κs = search needs
+cell-end-requires : tie.Need-cell-end-requires Inv-loop μ-loop
+cell-end-requires c κs = search needs
 
-plot-requires : tie.Need-plot-requires Inv-loop μ-loop
-plot-requires c κs = search needs
+window-requires : tie.Need-window-requires Inv-loop μ-loop
+window-requires c κs = search needs
 
-add-x : tie.Need-add-x Inv-loop μ-loop
-add-x c = search needs
+paint-cell-requires : tie.Need-paint-cell-requires Inv-loop μ-loop
+paint-cell-requires c κs = c .before .before .cell-end .ensures .1
+
+sub-k : tie.Need-sub-k Inv-loop μ-loop
+sub-k c = omega (arith, c .before .before .before .before .before .cell-end .ensures .1 .some)
+
+cast-k : tie.Need-cast-k Inv-loop μ-loop
+cast-k c = search needs
 
 add-k : tie.Need-add-k Inv-loop μ-loop
 add-k c = search needs
 
 loop-less : tie.Need-loop-less Inv-loop μ-loop
-loop-less c = search needs
+loop-less c = omega (arith, c .before .before .before .before .before .cell-end .ensures .1 .some)
 
 loop-again : tie.Need-loop-again Inv-loop μ-loop
-loop-again c = row-step (c .before .before .before .before .before .before .loop .inv) (search needs) (c .before .before .plot .ensures) (c .before .before .before .before .bit-at .ensures)
+loop-again c = row-step (c .before .before .before .before .before .before .before .loop .inv) (c .before .before .before .before .before .cell-end .ensures .1) (search needs) (c .before .before .before .window .ensures) (c .before .before .paint-cell .ensures)
 
 same-length : tie.Need-same-length Inv-loop μ-loop
 same-length c = search needs
@@ -45,9 +52,11 @@ paint-row-spec =
     Inv-loop
     μ-loop
     loop-holds
-    bit-at-requires
-    plot-requires
-    add-x
+    cell-end-requires
+    window-requires
+    paint-cell-requires
+    sub-k
+    cast-k
     add-k
     loop-less
     loop-again

@@ -1,7 +1,14 @@
+use native.Mathlib.Omega.{arith}
 use Rattle.strip_chart.proofs.Walk.{strip-lent, strip-off}
 use borrow.Author.Needs.{needs}
 use Rattle.strip_chart.proofs.shift_strip.Statement.{statement}
 use Rattle.strip_chart.proofs.shift_strip.Tie as tie
+
+sub-least : tie.Need-sub-least
+sub-least c = search needs
+
+least-requires : tie.Need-least-requires
+least-requires c κs = search needs
 
 add-rows-between : tie.Need-add-rows-between
 add-rows-between c = search needs
@@ -25,15 +32,17 @@ same-length : tie.Need-same-length
 same-length c = search needs
 
 returns : tie.Need-returns
-returns c = let a = c .before .before .before .before .before .before .before .args in strip-lent (a .right) (a .x1) (a .y1) (a .x2) (a .y2) (a .fb .now) _ (c .before .before .before .before .rows-between .result) (λ i. c .before .before .before .before .before .before .slice-known .given i .fits) (c .before .before .before .before .rows-between .ensures) (c .before .before .shift-rows .ensures)
+returns c = let a = c .before .before .before .before .before .before .before .before .args in strip-lent (a .right) (a .x1) (a .y1) (a .x2) (a .y2) (c .before .before .before .before .before .before .least .result) (a .fb .now) _ (c .before .before .before .before .rows-between .result) (λ i. c .before .before .before .before .before .before .before .slice-known .given i .fits) (c .before .before .before .before .before .before .least .ensures) (c .before .before .before .before .rows-between .ensures) (c .before .before .shift-rows .ensures)
 
 returns-2 : tie.Need-returns-2
-returns-2 c = let a = c .before .before .args in strip-off (a .right) (a .x1) (a .y1) (a .x2) (a .y2) (a .fb .now) (λ i. c .before .slice-known .given i .fits) (search needs)
+returns-2 c = let a = c .before .before .before .args in strip-off (a .right) (a .x1) (a .y1) (a .x2) (a .y2) (a .fb .now) (λ i. c .before .before .slice-known .given i .fits) (omega (arith, c .before .least .ensures))
 
 pub shift-strip-spec : {M : Type 1} → statement M
 shift-strip-spec =
     tie.close
     (tie.spec
+    sub-least
+    least-requires
     add-rows-between
     rows-between-requires
     sub-shift-rows
