@@ -195,15 +195,12 @@ module _ (st q : List ℕ) (b : ℕ) (t : Bool) (sound : t ≡ soundRecord 64 st
     unfolding takeCall
     take-3-queue h = rw (← sound, not-false t fine, ← sound-queue, not-true u h)
 
-    module _ (good : not u ≡ false) (z : State) (k : Queue) (f : Flow) (q' : List ℕ) (read : z ≡ decodeOf st) (held : k ≡ queue-record.decodeOf q) (flow : f ≡ z .port .flow) where
+    module _ (good : not u ≡ false) (k : Queue) (f : Flow) (q' : List ℕ) (flow-is : f ≡ decodeOf st .port .flow) (held : k ≡ queue-record.decodeOf q) where
       passes-queue : queue-record.soundRecord q ≡ true
       passes-queue = sym sound-queue ∙ not-false u good
 
       long : length q ≡ 85
       long = queue-round.passed q passes-queue .long
-
-      flow-is : f ≡ decodeOf st .port .flow
-      flow-is = flow ∙ ap (λ (x : State). x .port .flow) read
 
       pub arrive-0 : (a : Arrival) → a ≡ arriveOf k f b → q' ≡ queue-record.encodedIn (a .queue) q → served (a .answer) 0 (a .signal) q' ≡ arriveCall st q b
       unfolding arriveCall

@@ -241,8 +241,7 @@ pub extern "C" fn display_arrive(state: &[u8], queue: &mut [u8], byte: u8, signa
     if !queue::sound(queue) {
         return BAD_RECORD;
     }
-    let s = record::decode(state);
-    let flow = s.port.flow;
+    let flow = record::flow_in(state);
     let arrival = queue::arrive(queue::decode(queue), flow, byte);
     let next = arrival.queue;
     queue::encode(next, queue);
@@ -268,8 +267,7 @@ pub extern "C" fn display_take(
     if !queue::sound(queue) {
         return BAD_RECORD;
     }
-    let s = record::decode(state);
-    let flow = s.port.flow;
+    let flow = record::flow_in(state);
     let taken = queue::take(queue::decode(queue), flow);
     let next = taken.queue;
     queue::encode(next, queue);

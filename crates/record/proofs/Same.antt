@@ -1,14 +1,14 @@
--- Two lists compared byte by byte, by a loop that leaves at the first difference.
+-- Two lists compared byte by byte.
 -- Assumes nothing.
-use mathlib.Core.Path.{_≡_, refl}
-use mathlib.Core.Bool.{Bool, true, false, _&&_, false≢true}
+use mathlib.Core.Path.{_≡_, refl, sym, _∙_}
+use mathlib.Core.Bool.{Bool, true, false, _&&_, false≢true, and-assoc, and-true}
 use mathlib.Core.List.{List, [], _∷_}
 use Prim.Native.Nat.{ℕ, suc, _+_, _<_, _≤_}
 use native.Mathlib.Numerals.{add-one}
 use lib.Dec.{eqb}
 use lib.ListN.{length, getD, drop, drop-of-length-le}
 use lib.Seq.{drop-cons}
-use borrow.Author.Tests.{eqb-true, eq-eqb, ne-eqb}
+use borrow.Author.Tests.{eqb-true, eq-eqb}
 use Rattle.record.specs.Record.{sameBytes}
 
 pub both : (a b : Bool) → (a && b) ≡ true → (a ≡ true) × (b ≡ true)
@@ -29,24 +29,19 @@ same-equal (a ∷ l) (b ∷ m) e =
     let h = both (eqb a b) (sameBytes l m) e in
     rw (eqb-true a b (h .0), same-equal l m (h .1))
 
--- the first k bytes are the same
-pub record Alike (l m : List ℕ) (k : ℕ) : Type 0 where
-  pub rest : sameBytes (drop k l) (drop k m) ≡ sameBytes l m
+-- b says whether the first k bytes are the same
+pub record Alike (l m : List ℕ) (k : ℕ) (b : Bool) : Type 0 where
+  pub rest : (b && sameBytes (drop k l) (drop k m)) ≡ sameBytes l m
 
-pub alike-start : (l m : List ℕ) → Alike l m 0
+pub alike-start : (l m : List ℕ) → Alike l m 0 true
 alike-start l m = record { rest = refl }
 
-module _ {l m : List ℕ} {k : ℕ} (s : Alike l m k) where
-  next : k < length l → k < length m → (eqb (getD l k 0) (getD m k 0) && sameBytes (drop (suc k) l) (drop (suc k) m)) ≡ sameBytes l m
+module _ {l m : List ℕ} {k : ℕ} {b : Bool} (s : Alike l m k b) where
+  pub alike-more : {c : Bool} → k < length l → k < length m → c ≡ (b && eqb (getD l k 0) (getD m k 0)) → Alike l m (k + 1) c
   unfolding sameBytes
-  next h q = rw (drop-cons l k 0 h, drop-cons m k 0 q) at (s .rest)
+  alike-more h q e =
+      record { rest = rw (e, add-one) (and-assoc b (eqb (getD l k 0) (getD m k 0)) (sameBytes (drop (suc k) l) (drop (suc k) m)) ∙ (rw (drop-cons l k 0 h, drop-cons m k 0 q) at (s .rest))) }
 
-  pub alike-more : k < length l → k < length m → getD l k 0 ≡ getD m k 0 → Alike l m (k + 1)
-  alike-more h q e = record { rest = rw add-one (rw (eq-eqb (getD l k 0) (getD m k 0) e) at (next h q)) }
-
-  pub alike-differs : k < length l → k < length m → (getD l k 0 ≡ getD m k 0 → ⊥) → false ≡ sameBytes l m
-  alike-differs h q e = rw (ne-eqb (getD l k 0) (getD m k 0) e) at (next h q)
-
-  pub alike-end : length l ≤ k → length m ≤ k → true ≡ sameBytes l m
+  pub alike-end : length l ≤ k → length m ≤ k → b ≡ sameBytes l m
   unfolding sameBytes
-  alike-end h q = rw (drop-of-length-le l {i = k} h, drop-of-length-le m {i = k} q) at (s .rest)
+  alike-end h q = sym (and-true b) ∙ (rw (drop-of-length-le l {i = k} h, drop-of-length-le m {i = k} q) at (s .rest))

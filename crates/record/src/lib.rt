@@ -2,6 +2,8 @@
 mod reading;
 mod writing;
 
+use queue::Flow;
+use reading::flow_of;
 use reading::panel_of;
 use reading::port_of;
 use state::State;
@@ -9,6 +11,7 @@ use state::is_sound;
 use writing::encode_panel;
 use writing::encode_port;
 ghost use mathlib.Core.Path.{_≡_};
+ghost use mathlib.Core.Bool.{_&&_};
 ghost use lib.ListN.{length};
 ghost use Rattle.record.specs.Reading.{decodeOf};
 ghost use Rattle.record.specs.Record.{encodedIn, sameBytes, soundRecord};
@@ -79,6 +82,13 @@ pub fn decode(r: &[u8]) -> State
     }
 }
 
+// Its flow control alone.
+pub fn flow_in(r: &[u8]) -> Flow
+    ensures { λ f. ⌜ f ≡ decodeOf (now (r .entry)) .port .flow ⌝ }
+{
+    flow_of(r)
+}
+
 // Writes the record of a state over the first bytes, as far as there are any; all others stay.
 pub fn encode(s: State, out: &mut [u8])
     ensures { λ _. ⌜ now (out .exit) ≡ encodedIn s (now (out .entry)) ⌝ }
@@ -89,18 +99,24 @@ pub fn encode(s: State, out: &mut [u8])
     encode_panel(panel, out);
 }
 
+fn both(a: bool, b: bool) -> bool
+    ensures { λ r. ⌜ r ≡ (a && b) ⌝ }
+{
+    if a { b } else { false }
+}
+
+// To the end, whatever differs: a loop with one way out is done many bytes at a time.
 fn is_same(a: [u8; RECORD], r: &[u8]) -> bool
     requires { ⌜ length (now r) ≡ 201 ⌝ }
     ensures { λ b. ⌜ b ≡ sameBytes a (now (r .entry)) ⌝ }
 {
+    let mut same = true;
     let mut k = 0;
     while k < RECORD {
-        if a[k] != r[k] {
-            return false;
-        }
+        same = both(same, a[k] == r[k]);
         k += 1;
     }
-    true
+    same
 }
 
 // Whether it is the record of a sound state, on a glass of `height` rows.

@@ -33,7 +33,7 @@ use state::Strip;
 use state::Text;
 ghost use mathlib.Core.Path.{_≡_};
 ghost use Prim.Native.Nat.{_+_, _*_, _<_, _≤_};
-ghost use lib.ListN.{drop};
+ghost use lib.ListN.{length, drop};
 ghost use Rattle.queue.specs.Record.{at, bytesFrom};
 ghost use Rattle.record.specs.Layout.{argumentsAt, inlineAt, uploadAt, textAt, drawingAt, flowAt, refusalsAt, barsAt, barSize, stripsAt, stripSize, serialAt, backlightAt};
 ghost use Rattle.record.specs.Reading.{manyOf, inlineOf, uploadOf, phaseOf, argumentsIn, textOf, drawingOf, flowOf, refusalsOf, portOf};
@@ -62,8 +62,8 @@ fn byte_at(r: &[u8], k: usize) -> u8
     if k < r.len() { r[k] } else { 0 }
 }
 
-// As many bytes from k on as the longest part has.
-fn part_at(r: &[u8], k: usize) -> [u8; LONGEST]
+// As many bytes from k on as the longest part has, of which the record lacks some.
+fn part_across(r: &[u8], k: usize) -> [u8; LONGEST]
     requires { ⌜ k ≤ 200 ⌝ }
     ensures { λ l. ⌜ l ≡ bytesFrom (drop k (now (r .entry))) 0 11 ⌝ }
 {
@@ -74,6 +74,31 @@ fn part_at(r: &[u8], k: usize) -> [u8; LONGEST]
         i += 1;
     }
     l
+}
+
+// The same where it has them all: no place is asked for.
+fn part_inside(r: &[u8], k: usize) -> [u8; LONGEST]
+    requires { ⌜ (k ≤ 200) × (k + 11 ≤ length (now r)) ⌝ }
+    ensures { λ l. ⌜ l ≡ bytesFrom (drop k (now (r .entry))) 0 11 ⌝ }
+{
+    let mut l = [0; LONGEST];
+    let mut i = 0;
+    while i < LONGEST {
+        l[i] = r[k + i];
+        i += 1;
+    }
+    l
+}
+
+fn part_at(r: &[u8], k: usize) -> [u8; LONGEST]
+    requires { ⌜ k ≤ 200 ⌝ }
+    ensures { λ l. ⌜ l ≡ bytesFrom (drop k (now (r .entry))) 0 11 ⌝ }
+{
+    if k + LONGEST <= r.len() {
+        part_inside(r, k)
+    } else {
+        part_across(r, k)
+    }
 }
 
 fn inline_of(r: &[u8]) -> Phase
@@ -161,7 +186,7 @@ fn drawing_of(r: &[u8]) -> Drawing
     }
 }
 
-fn flow_of(r: &[u8]) -> Flow
+pub fn flow_of(r: &[u8]) -> Flow
     ensures { λ f. ⌜ f ≡ flowOf (drop flowAt (now (r .entry))) ⌝ }
 {
     let l = part_at(r, FLOW);

@@ -1,5 +1,4 @@
 use Rattle.display.proofs.Ways.{arrive-3, arrive-3-queue, arrive-0}
-use mathlib.Core.Path.{refl}
 use borrow.Author.Needs.{needs}
 use Rattle.display.proofs.display_arrive.Statement.{statement}
 use Rattle.display.proofs.display_arrive.Tie as tie
@@ -19,11 +18,11 @@ same-length c = search needs
 returns-2 : tie.Need-returns-2
 returns-2 c = arrive-3-queue _ _ _ _ (c .before .before .before .before .is-record .ensures) (search needs) _ (c .before .sound .ensures) (search needs)
 
+flow-in-requires : tie.Need-flow-in-requires
+flow-in-requires c κs = search needs
+
 decode-requires : tie.Need-decode-requires
 decode-requires c κs = search needs
-
-decode-requires-2 : tie.Need-decode-requires-2
-decode-requires-2 c κs = search needs
 
 arrive-requires : tie.Need-arrive-requires
 arrive-requires c κs = search needs
@@ -38,7 +37,7 @@ same-length-2 : tie.Need-same-length-2
 same-length-2 c = search needs
 
 returns-3 : tie.Need-returns-3
-returns-3 c = arrive-0 _ _ _ _ (c .before .before .before .before .before .before .before .before .before .before .before .before .before .before .before .is-record .ensures) (c .before .before .before .before .before .before .before .before .before .before .before .before .before .before .if1 .left) _ (c .before .before .before .before .before .before .before .before .before .before .before .before .sound .ensures) (c .before .before .before .before .before .before .before .before .before .before .before .if2 .left) _ _ _ _ (c .before .before .before .before .before .before .before .before .before .before .decode .ensures) (c .before .before .before .before .before .before .before .decode2 .ensures) refl _ (c .before .before .before .before .before .before .arrive .ensures) (c .before .before .before .encode .ensures)
+returns-3 c = arrive-0 _ _ _ _ (c .before .before .before .before .before .before .before .before .before .before .before .before .before .before .is-record .ensures) (c .before .before .before .before .before .before .before .before .before .before .before .before .before .if1 .left) _ (c .before .before .before .before .before .before .before .before .before .before .before .sound .ensures) (c .before .before .before .before .before .before .before .before .before .before .if2 .left) _ _ _ (c .before .before .before .before .before .before .before .before .before .flow-in .ensures) (c .before .before .before .before .before .before .before .decode .ensures) _ (c .before .before .before .before .before .before .arrive .ensures) (c .before .before .before .encode .ensures)
 
 pub display-arrive-spec : {M : Type 1} → statement M
 display-arrive-spec =
@@ -49,8 +48,8 @@ display-arrive-spec =
     sound-requires
     same-length
     returns-2
+    flow-in-requires
     decode-requires
-    decode-requires-2
     arrive-requires
     encode-requires
     cast-result

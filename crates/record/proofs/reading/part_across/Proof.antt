@@ -1,4 +1,4 @@
--- `part_at` meets its contract.
+-- `part_across` meets its contract.
 -- Assumes nothing.
 use Prim.Native.Nat.{_-_}
 use native.Mathlib.Omega.{arith}
@@ -7,8 +7,8 @@ use borrow.Author.Needs.{needs}
 use Rattle.queue.specs.Record.{bytesFrom}
 use Rattle.queue.proofs.Tables.{Over, over-start, over-step, over-whole, length-bytesFrom}
 use Rattle.record.proofs.Windows.{window-byte}
-use Rattle.record.proofs.reading.part_at.Statement.{statement}
-use Rattle.record.proofs.reading.part_at.Tie as tie
+use Rattle.record.proofs.reading.part_across.Statement.{statement}
+use Rattle.record.proofs.reading.part_across.Tie as tie
 
 abbrev Inv-loop : tie.InvT-loop
 Inv-loop r k l₀ i₀ l i = Over (bytesFrom (drop k r) 0 11) l₀ l 11 i
@@ -40,8 +40,8 @@ loop-again c = over-step (c .before .before .loop .inv) (search needs) (window-b
 returns : tie.Need-returns Inv-loop μ-loop
 returns c = over-whole (c .before .loop .inv) (search needs) (length-bytesFrom _ 0 11) (search needs)
 
-pub part-at-spec : {M : Type 1} → statement M
-part-at-spec =
+pub part-across-spec : {M : Type 1} → statement M
+part-across-spec =
     tie.close
     (tie.spec
     Inv-loop
