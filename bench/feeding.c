@@ -1,0 +1,68 @@
+#include "display.h"
+#include "race.h"
+#include "sides.h"
+#include "tables.h"
+
+#include <stdio.h>
+
+typedef struct {
+    const Side *side;
+    const Stream *stream;
+    size_t piece;
+} Feeding;
+
+static void run(const void *what, unsigned long times)
+{
+    const Feeding *f = what;
+    while (times-- > 0)
+        feed_stream(f->side, f->stream, f->piece);
+}
+
+static const char *verdict(double to_independent, double to_plain)
+{
+    if (to_independent <= 1 && to_plain <= 1)
+        return "met";
+    if (to_independent <= 1)
+        return "slower than plain C";
+    return to_plain <= 1 ? "slower than the independent one" : "slower than both";
+}
+
+static void print_row(const char *name, const Stream *setup, const Stream *timed, size_t piece, double shortest)
+{
+    Feeding feedings[SIDES];
+    Runner runners[SIDES];
+    double ns[SIDES];
+    int i;
+    check_agreement(name, setup, timed);
+    for (i = 0; i < SIDES; i++) {
+        feedings[i] = (Feeding){&sides[i], timed, piece};
+        runners[i] = (Runner){run, &feedings[i], 0};
+    }
+    race(runners, SIDES, shortest);
+    for (i = 0; i < SIDES; i++)
+        ns[i] = 1e9 * runners[i].seconds / (double)timed->length;
+    printf("| %s | %lu | %.1f |", name, (unsigned long)piece, ns[OURS]);
+    for (i = OURS + 1; i < SIDES; i++)
+        printf(" %.1f | %.2f |", ns[i], ns[OURS] / ns[i]);
+    printf(" 1.00 | %s |\n", verdict(ns[OURS] / ns[INDEPENDENT], ns[OURS] / ns[PLAIN_PIXELS]));
+    fflush(stdout);
+}
+
+void print_feeding(double shortest)
+{
+    static Stream setup, timed;
+    size_t i;
+    printf("display_feed, ns a byte. Goal: no ratio to the independent implementation or to plain C above 1.\n\n"
+           "| Stream | Piece | Ours | Independent | Ratio | Plain C | Ratio | Plain C by bytes | Ratio | Goal | Today |\n"
+           "|---|---|---|---|---|---|---|---|---|---|---|\n");
+    mixed(&timed);
+    print_row("mixed", &setup, &timed, PIECE, shortest);
+    print_row("mixed", &setup, &timed, 1, shortest);
+    for (i = 0; i < family_count; i++) {
+        setup.length = timed.length = 0;
+        families[i].setup(&setup);
+        families[i].timed(&timed);
+        print_row(families[i].name, &setup, &timed, PIECE, shortest);
+    }
+    printf("\n");
+}

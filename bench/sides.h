@@ -1,0 +1,33 @@
+// What is timed side by side, behind one form: the library, the independent implementation, and the plain C in its two
+// forms. Each side keeps one display with an empty store of the greatest size.
+#ifndef SIDES_H
+#define SIDES_H
+
+#include "streams.h"
+
+enum { OURS, INDEPENDENT, PLAIN_PIXELS, PLAIN_BYTES, SIDES };
+
+// Bytes of a large piece, and reply bytes lent with every call.
+enum { PIECE = 4096, REPLIES = 2 * PIECE };
+
+typedef struct {
+    const char *name;
+    void (*start)(void);
+    // Obeys the whole piece; the answer is the number of replies. Ends the program where it is not obeyed.
+    size_t (*feed)(const uint8_t *piece, size_t length, uint8_t *replies);
+    const uint8_t *(*glass)(void);
+} Side;
+
+extern const Side sides[SIDES];
+
+// The library's own memory, for calls that only it has.
+extern uint8_t our_glass[], our_store[], our_state[], our_queue[];
+
+// Feeds a stream in pieces of this length, the replies unread.
+void feed_stream(const Side *side, const Stream *s, size_t piece);
+
+// Starts all sides and feeds them both streams; ends the program where a reply or a glass differs after any piece, or
+// where the library refused anything.
+void check_agreement(const char *name, const Stream *setup, const Stream *timed);
+
+#endif
