@@ -53,7 +53,8 @@ void print_feeding(double shortest)
     static Stream setup, timed;
     size_t i;
     printf("display_feed, ns a byte. Goal: no ratio to the independent implementation or to plain C above 1.\n\n"
-           "| Stream | Piece | Ours | Independent | Ratio | Plain C | Ratio | Plain C by bytes | Ratio | Goal | Today |\n"
+           "| Stream | Piece | Ours | Independent | Ratio | Plain C | Ratio | Plain C by bytes | Ratio | Goal "
+           "| Today |\n"
            "|---|---|---|---|---|---|---|---|---|---|---|\n");
     mixed(&timed);
     print_row("mixed", &setup, &timed, PIECE, shortest);

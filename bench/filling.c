@@ -46,6 +46,23 @@ static void feed_nothing(const void *what, unsigned long times)
         side->feed(glass, 0, replies);
 }
 
+static void expect_byte(uint8_t taken, uint8_t sent)
+{
+    if (taken != sent) {
+        fprintf(stderr, "bench: %u came out of the queue for %u\n", taken, sent);
+        exit(1);
+    }
+}
+
+typedef uint8_t Queued(uint8_t byte);
+
+static void queue_bytes(const void *what, unsigned long times)
+{
+    Queued *const *queued = what;
+    while (times-- > 0)
+        expect_byte((*queued)((uint8_t)times), (uint8_t)times);
+}
+
 static void loop_pixels(const void *what, unsigned long times)
 {
     const bool *black = what;
@@ -78,7 +95,7 @@ static void loop_pixman(const void *what, unsigned long times)
 static void print_row(const char *name, double ours, const char *other, double theirs, double goal)
 {
     double ratio = ours / theirs;
-    printf("| %s | %.1f | %s | %.1f | %.1f | %.0f | %s |\n", name, 1e9 * ours, other, 1e9 * theirs, ratio, goal,
+    printf("| %s | %.1f | %s | %.1f | %.2f | %.0f | %s |\n", name, 1e9 * ours, other, 1e9 * theirs, ratio, goal,
            met(ratio <= goal));
 }
 
@@ -116,36 +133,59 @@ static void print_fill(const char *name, const Repeated *r, bool black, double s
     fflush(stdout);
 }
 
-// The library beside plain C, both through their feed.
-static void print_feed(const char *name, Runner ours, Runner plain, double count, double shortest)
+// Ours beside another that does the same, `count` times at each run.
+static void print_pair(const char *name, Runner ours, const char *other, Runner theirs, double count, double shortest)
 {
     Runner runners[2];
     runners[0] = ours;
-    runners[1] = plain;
+    runners[1] = theirs;
     race(runners, 2, shortest);
-    print_row(name, runners[0].seconds / count, "plain C", runners[1].seconds / count, 1);
+    print_row(name, runners[0].seconds / count, other, runners[1].seconds / count, 1);
     fflush(stdout);
+}
+
+// As many files as the directory holds, of one byte each.
+static void fill_directory(const Side *side)
+{
+    uint8_t replies[REPLIES], n;
+    for (n = 0; n < PLAIN_FILES; n++) {
+        uint8_t command[] = {COMMAND, UPLOAD_BITMAP, n, 1, 0, 0, CONFIRM};
+        side->feed(command, sizeof command, replies);
+    }
+}
+
+static void print_overheads(double shortest)
+{
+    static Queued *const ours = our_queued, *const theirs = independent_queued;
+    Repeated *colour = REPEATED(OURS, COMMAND, DRAWING_COLOUR, 1);
+    Repeated *plain_colour = REPEATED(PLAIN_PIXELS, COMMAND, DRAWING_COLOUR, 1);
+    Runner nothing = {feed_nothing, &sides[OURS], 0}, plain_nothing = {feed_nothing, &sides[PLAIN_PIXELS], 0};
+    print_pair("a command that paints nothing, `254 99 1`", (Runner){feed_repeated, colour, 0}, "plain C",
+               (Runner){feed_repeated, plain_colour, 0}, (double)colour->count, shortest);
+    print_pair("a feed of no bytes, no files", nothing, "plain C", plain_nothing, 1, shortest);
+    fill_directory(&sides[OURS]);
+    fill_directory(&sides[PLAIN_PIXELS]);
+    print_pair("a feed of no bytes, 63 files", nothing, "plain C", plain_nothing, 1, shortest);
+    print_pair("arrive and take, a byte", (Runner){queue_bytes, &ours, 0}, "the independent one",
+               (Runner){queue_bytes, &theirs, 0}, 1, shortest);
+    free(colour);
+    free(plain_colour);
 }
 
 void print_filling(double shortest)
 {
-    Repeated *clear = REPEATED(OURS, COMMAND, CLEAR), *colour = REPEATED(OURS, COMMAND, DRAWING_COLOUR, 1);
+    Repeated *clear = REPEATED(OURS, COMMAND, CLEAR);
     Repeated *solid = REPEATED(OURS, COMMAND, RECTANGLE, 1, 0, 0, DISPLAY_WIDTH - 1, DISPLAY_HEIGHT - 1);
-    Repeated *plain_colour = REPEATED(PLAIN_PIXELS, COMMAND, DRAWING_COLOUR, 1);
-    sides[OURS].start();
-    sides[PLAIN_PIXELS].start();
-    printf("The whole glass through display_feed, in pieces of %d bytes, and what a call costs without painting; ns.\n\n"
+    int i;
+    for (i = 0; i < SIDES; i++)
+        sides[i].start();
+    printf("The whole glass through display_feed, in pieces of %d bytes, and what calls cost without painting; ns.\n\n"
            "| What | Ours | Against | Theirs | Ratio | Goal | Today |\n"
            "|---|---|---|---|---|---|---|\n", PIECE);
     print_fill("clear, `254 88`", clear, false, shortest);
     print_fill("solid, `254 120 1 0 0 239 63`", solid, true, shortest);
-    print_feed("a command that paints nothing, `254 99 1`", (Runner){feed_repeated, colour, 0},
-               (Runner){feed_repeated, plain_colour, 0}, (double)colour->count, shortest);
-    print_feed("a call with an empty piece", (Runner){feed_nothing, &sides[OURS], 0},
-               (Runner){feed_nothing, &sides[PLAIN_PIXELS], 0}, 1, shortest);
+    print_overheads(shortest);
     printf("\n");
     free(clear);
-    free(colour);
     free(solid);
-    free(plain_colour);
 }

@@ -1,4 +1,4 @@
-// The hot commands in plain C, as they would be written for the device without proofs: what the library is timed against.
+// The hot commands in plain C, as they would be written for the device without proofs: the library is timed beside it.
 // Clear and scroll move whole bytes; all other painting has two forms, by the pixel and by the byte.
 #ifndef PLAIN_H
 #define PLAIN_H
@@ -25,7 +25,17 @@ typedef struct {
 
 extern const Painters pixel_painters, byte_painters;
 
-void set_pixel(uint8_t *glass, unsigned x, unsigned y, bool black);
+static inline void set_pixel(uint8_t *glass, unsigned x, unsigned y, bool black)
+{
+    uint8_t mask = (uint8_t)(0x80 >> x % 8);
+    if (x >= DISPLAY_WIDTH || y >= DISPLAY_HEIGHT)
+        return;
+    if (black)
+        glass[y * DISPLAY_STRIDE + x / 8] |= mask;
+    else
+        glass[y * DISPLAY_STRIDE + x / 8] &= (uint8_t)~mask;
+}
+
 void draw_line(uint8_t *glass, int x1, int y1, int x2, int y2, bool black);
 void clear_glass(uint8_t *glass);
 void scroll_glass(uint8_t *glass, unsigned rows);

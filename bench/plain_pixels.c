@@ -4,17 +4,6 @@
 #include <stdlib.h>
 #include <string.h>
 
-void set_pixel(uint8_t *glass, unsigned x, unsigned y, bool black)
-{
-    uint8_t mask = (uint8_t)(0x80 >> x % 8);
-    if (x >= DISPLAY_WIDTH || y >= DISPLAY_HEIGHT)
-        return;
-    if (black)
-        glass[y * DISPLAY_STRIDE + x / 8] |= mask;
-    else
-        glass[y * DISPLAY_STRIDE + x / 8] &= (uint8_t)~mask;
-}
-
 static bool pixel(const uint8_t *glass, unsigned x, unsigned y)
 {
     return (glass[y * DISPLAY_STRIDE + x / 8] >> (7 - x % 8) & 1) != 0;

@@ -13,6 +13,7 @@ typedef struct Board Board;
 Board *reference_start(size_t store_length);
 uint32_t reference_feed(Board *board, const uint8_t *piece, size_t piece_length, uint8_t *replies,
                         size_t replies_length, size_t *replied);
+uint8_t reference_queue(Board *board, uint8_t byte);
 void reference_glass(const Board *board, uint8_t *glass);
 void reference_font(uint8_t *font);
 
@@ -69,6 +70,19 @@ static const uint8_t *independent_glass(void)
     static uint8_t glass[DISPLAY_FRAMEBUFFER_SIZE];
     reference_glass(board, glass);
     return glass;
+}
+
+uint8_t our_queued(uint8_t byte)
+{
+    uint8_t taken, signal;
+    display_arrive(our_state, sizeof our_state, our_queue, sizeof our_queue, byte, &signal);
+    display_take(our_state, sizeof our_state, our_queue, sizeof our_queue, &taken, &signal);
+    return taken;
+}
+
+uint8_t independent_queued(uint8_t byte)
+{
+    return reference_queue(board, byte);
 }
 
 static void pixels_start(void)

@@ -20,6 +20,10 @@ typedef struct {
 
 extern const Side sides[SIDES];
 
+// A byte through the queue and out of it again.
+uint8_t our_queued(uint8_t byte);
+uint8_t independent_queued(uint8_t byte);
+
 // The library's own memory, for calls that only it has.
 extern uint8_t our_glass[], our_store[], our_state[], our_queue[];
 

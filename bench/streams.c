@@ -104,6 +104,7 @@ static void pixels(Stream *s)
     }
 }
 
+// Left and right in turn, so that what stands in the strips stays there.
 static void strips(Stream *s)
 {
     unsigned n, round;
@@ -111,7 +112,7 @@ static void strips(Stream *s)
         PUT(s, COMMAND, SET_UP_STRIP, (uint8_t)n, (uint8_t)(30 * n), 8, (uint8_t)(30 * n + 28), 55);
     for (round = 0; round < 24; round++)
         for (n = 0; n < STRIPS; n++)
-            PUT(s, COMMAND, SHIFT_STRIP, (uint8_t)(n + (round % 3 == 0 ? 128 : 0)));
+            PUT(s, COMMAND, SHIFT_STRIP, (uint8_t)(n + (round % 2 == 0 ? 128 : 0)));
 }
 
 // Bitmaps 1 to BITMAPS, each byte followed by the host's confirmation.

@@ -29,6 +29,16 @@ pub unsafe extern "C" fn reference_feed(
     fed.answer as u32
 }
 
+/// Puts a byte into the queue and takes it out again; the answer is the byte.
+///
+/// # Safety
+/// `board` comes from `reference_start`.
+#[no_mangle]
+pub unsafe extern "C" fn reference_queue(board: *mut Board, byte: u8) -> u8 {
+    (*board).arrive(byte);
+    (*board).take().byte
+}
+
 /// Writes the 1,920 bytes of the glass.
 ///
 /// # Safety
