@@ -95,8 +95,8 @@ static void loop_pixman(const void *what, unsigned long times)
 static void print_row(const char *name, double ours, const char *other, double theirs, double goal)
 {
     double ratio = ours / theirs;
-    printf("| %s | %.1f | %s | %.1f | %.2f | %.0f | %s |\n", name, 1e9 * ours, other, 1e9 * theirs, ratio, goal,
-           met(ratio <= goal));
+    printf("| %s | %.1f | %s | %.1f | %.*f | %.0f | %s |\n", name, 1e9 * ours, other, 1e9 * theirs, ratio < 1 ? 3 : 1,
+           ratio, goal, met(ratio <= goal));
 }
 
 // Every way must leave the same picture, or it is not worth timing.

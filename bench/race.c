@@ -4,7 +4,7 @@
 
 #include <time.h>
 
-enum { ROUNDS = 7, RUNNERS = 8 };
+enum { ROUNDS = 8, RUNNERS = 8 };
 
 // Time of this process alone: other programs on the machine do not count.
 static double now(void)
@@ -21,6 +21,14 @@ static double timed(const Runner *r, unsigned long times)
     return now() - from;
 }
 
+// Further down the stack at every round, a page in all: where frames fall in it changes the time.
+static double timed_below(const Runner *r, unsigned long times, int levels)
+{
+    volatile char room[4096 / ROUNDS] = {0};
+    double passed = levels == 0 ? timed(r, times) : timed_below(r, times, levels - 1);
+    return passed + room[0];
+}
+
 void race(Runner *runners, size_t count, double shortest)
 {
     unsigned long times[RUNNERS];
@@ -35,7 +43,7 @@ void race(Runner *runners, size_t count, double shortest)
     }
     for (round = 0; round < ROUNDS; round++)
         for (i = 0; i < count; i++) {
-            double seconds = timed(&runners[i], times[i]) / (double)times[i];
+            double seconds = timed_below(&runners[i], times[i], round) / (double)times[i];
             if (seconds < runners[i].seconds)
                 runners[i].seconds = seconds;
         }
