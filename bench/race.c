@@ -4,7 +4,7 @@
 
 #include <time.h>
 
-enum { ROUNDS = 8, RUNNERS = 8 };
+enum { ROUNDS = 16, RUNNERS = 8 };
 
 // Time of this process alone: other programs on the machine do not count.
 static double now(void)
