@@ -1,0 +1,25 @@
+// port.h from C++: one command through the driver, and its reply.
+#include "port.h"
+
+static Port port;
+static uint8_t store[DISPLAY_STORE_LEAST];
+static uint8_t sent[2];
+
+static size_t accept(void *wire, const uint8_t *bytes, size_t count)
+{
+    if (wire != sent || count != sizeof sent)
+        return 0;
+    sent[0] = bytes[0];
+    sent[1] = bytes[1];
+    return count;
+}
+
+int main()
+{
+    const uint8_t serial_number[] = {254, 52, 'S', 'N'};
+    bool done = port_start(&port, store, sizeof store, accept, sent) == DISPLAY_OK;
+    for (uint8_t byte : serial_number)
+        port_receive(&port, byte);
+    done = done && port_waiting(&port) == sizeof serial_number && port_poll(&port) == DISPLAY_OK;
+    return done && port_waiting(&port) == 0 && sent[0] == 'S' && sent[1] == 'N' ? 0 : 1;
+}

@@ -1,0 +1,134 @@
+// Random streams through the port driver. Bytes come in any clusters, also during calls, and the host reads by fits and
+// starts; framebuffer, store, state record and replies must be those of one feed of the whole stream.
+#include "check-wire.h"
+
+enum { STREAMS = 150, LENGTH = 3000 };
+
+static uint64_t seed;
+static Bytes stream;
+static size_t received; // bytes of the stream
+
+static unsigned below(unsigned limit)
+{
+    seed ^= seed << 13;
+    seed ^= seed >> 7;
+    seed ^= seed << 17;
+    return (unsigned)(seed >> 33) % limit;
+}
+
+static void add(unsigned byte)
+{
+    stream.bytes[stream.count++] = (uint8_t)byte;
+}
+
+// Mostly small numbers, so that files are found again and corners are on the screen.
+static void add_arguments(unsigned count)
+{
+    while (count-- > 0)
+        add(below(4) > 0 ? below(12) : below(256));
+}
+
+// A file of few bytes, every one confirmed but for the one that breaks an upload off.
+static void add_upload(void)
+{
+    unsigned i, size = 1 + below(20);
+    add(COMMAND);
+    add(below(3) > 0 ? UPLOAD_BITMAP : UPLOAD_FONT);
+    add(below(6));
+    add(size);
+    add(0);
+    for (i = 0; i < size; i++) {
+        add(i < 2 ? 1 + below(5) : below(256));
+        add(below(50) > 0 ? CONFIRM : 0);
+    }
+}
+
+static void add_command(void)
+{
+    static const uint8_t commands[][2] = {
+        {PURGE, 2}, {FONT, 1}, {METRICS, 5}, {SERIAL_NUMBER, 2}, {SERIAL_NUMBER, 2}, {FLOW_ON, 2}, {FLOW_ON, 2},
+        {FLOW_OFF, 0}, {CONTRAST, 1}, {CLEAR, 0}, {SHOW_BITMAP, 3}, {BITMAP_IN_LINE, 4}, {SET_BAR, 6}, {WRITE_BAR, 2},
+        {SET_STRIP, 5}, {SHIFT_STRIP, 1}, {LINE, 4}, {PIXEL, 2}, {RECTANGLE, 5}, {TEXT_POINT, 2}, {DELETE_FILE, 2},
+        {COMMAND, 0}
+    };
+    const uint8_t *command = commands[below(sizeof commands / sizeof *commands)];
+    add(COMMAND);
+    add(command[0]);
+    add_arguments(command[1]);
+}
+
+static void make_stream(void)
+{
+    stream.count = 0;
+    while (stream.count < LENGTH) {
+        unsigned kind = below(10);
+        if (kind < 3)
+            add_upload();
+        else if (kind < 8)
+            add_command();
+        else
+            add(below(2) > 0 ? ' ' + below(95) : below(256));
+    }
+}
+
+static void receive_some(unsigned most)
+{
+    unsigned count = below(most + 1);
+    while (count-- > 0 && received < stream.count && port_waiting(&port) < DISPLAY_QUEUE_CAPACITY)
+        port_receive(&port, stream.bytes[received++]);
+}
+
+static void strike(void)
+{
+    receive_some(below(8) == 0 ? 3 : 0);
+}
+
+// `cluster`: bytes that come between two rounds at most. `pace`: bytes that the host reads in a round at most.
+static void run_through_driver(unsigned cluster, unsigned pace)
+{
+    received = 0;
+    interrupt = strike;
+    while (received < stream.count) {
+        receive_some(cluster);
+        allowance = below(3) > 0 ? below(pace + 1) : 0;
+        if (poll() != DISPLAY_OK)
+            return;
+    }
+    interrupt = NULL;
+    allowance = WIRE;
+    drain();
+}
+
+static void check_stream(size_t store_length)
+{
+    static const unsigned clusters[] = {1, 7, 80}, paces[] = {1, 4, 100};
+    static uint8_t framebuffer[DISPLAY_FRAMEBUFFER_SIZE], files[sizeof store], state[DISPLAY_STATE_RECORD_SIZE];
+    static uint8_t sent[WIRE];
+    size_t consumed, replied;
+    make_stream();
+    fresh();
+    CHECK("start", DISPLAY_OK, start(store_length));
+    memcpy(framebuffer, port.framebuffer, sizeof framebuffer);
+    memcpy(files, store, sizeof files);
+    memcpy(state, port.state, sizeof state);
+    CHECK("one feed", DISPLAY_OK, __real_display_feed(framebuffer, sizeof framebuffer, files, store_length, state,
+                                                      sizeof state, stream.bytes, stream.count, sent, sizeof sent,
+                                                      &consumed, &replied));
+    run_through_driver(clusters[below(3)], paces[below(3)]);
+    CHECK("framebuffer", 0, memcmp(framebuffer, port.framebuffer, sizeof framebuffer) != 0);
+    CHECK("store", 0, memcmp(files, store, sizeof files) != 0);
+    CHECK("state", 0, memcmp(state, port.state, sizeof state) != 0);
+    CHECK_BYTES("replies", &replies, sent, replied);
+    CHECK("lost", 0, display_lost_count(port.queue) + port.overruns);
+}
+
+void check_streams(void)
+{
+    unsigned i, starved = 0;
+    for (i = 1; i <= STREAMS; i++) {
+        seed = i * 0x9E3779B97F4A7C15u;
+        check_stream(DISPLAY_STORE_LEAST + below(DISPLAY_STORE_MOST - DISPLAY_STORE_LEAST));
+        starved += answers[DISPLAY_NO_REPLY_ROOM] > 0;
+    }
+    CHECK("streams that ran out of reply room", 1, starved > 0);
+}

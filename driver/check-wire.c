@@ -1,0 +1,148 @@
+// The linker puts the spies between driver and library (--wrap). They note what the calls give, in order.
+#include "check-wire.h"
+
+#include <stdio.h>
+
+Port port;
+uint8_t store[DISPLAY_STORE_MOST + 1];
+Bytes host, replies;
+size_t allowance;
+unsigned calls, answers[8], checks, failures;
+void (*interrupt)(void);
+
+static Bytes given;              // signals and replies
+static size_t given_by_arrivals; // length of `given` at the last arrival
+static int in_call;
+static unsigned overlaps, late;
+
+void check(const char *file, int line, const char *what, unsigned long expected, unsigned long got)
+{
+    checks++;
+    if (expected == got)
+        return;
+    failures++;
+    printf("%s:%d: %s: expected %lu, got %lu\n", file, line, what, expected, got);
+}
+
+void check_bytes(const char *file, int line, const char *what, const Bytes *got, const uint8_t *expected, size_t count)
+{
+    size_t i = 0;
+    check(file, line, what, count, got->count);
+    while (i < count && i < got->count && got->bytes[i] == expected[i])
+        i++;
+    if (i < count && i < got->count)
+        check(file, line, what, expected[i], got->bytes[i]);
+}
+
+static void append(Bytes *to, const uint8_t *bytes, size_t count)
+{
+    memcpy(to->bytes + to->count, bytes, count);
+    to->count += count;
+}
+
+static size_t host_reads(void *wire, const uint8_t *bytes, size_t count)
+{
+    if (count > allowance)
+        count = allowance;
+    allowance -= count;
+    append((Bytes *)wire, bytes, count);
+    return count;
+}
+
+static void enter(void)
+{
+    calls++;
+    overlaps += in_call != 0;
+    in_call = 1;
+    if (interrupt != NULL)
+        interrupt();
+}
+
+static uint32_t leave(uint32_t answer, const uint8_t *bytes, size_t count)
+{
+    in_call = 0;
+    answers[answer]++;
+    append(&given, bytes, count);
+    return answer;
+}
+
+uint32_t __real_display_arrive(const uint8_t *, size_t, uint8_t *, size_t, uint8_t, uint8_t *);
+uint32_t __real_display_take(const uint8_t *, size_t, uint8_t *, size_t, uint8_t *, uint8_t *);
+
+uint32_t __wrap_display_feed(uint8_t *glass, size_t glass_length, uint8_t *files, size_t files_length, uint8_t *state,
+                             size_t state_length, const uint8_t *piece, size_t piece_length, uint8_t *to,
+                             size_t to_length, size_t *consumed, size_t *replied)
+{
+    uint32_t answer;
+    enter();
+    late += allowance > 0 && host.count < given_by_arrivals;
+    answer = __real_display_feed(glass, glass_length, files, files_length, state, state_length, piece, piece_length, to,
+                                 to_length, consumed, replied);
+    append(&replies, to, *replied);
+    return leave(answer, to, *replied);
+}
+
+uint32_t __wrap_display_arrive(const uint8_t *state, size_t state_length, uint8_t *queue, size_t queue_length,
+                               uint8_t byte, uint8_t *signal)
+{
+    uint32_t answer;
+    enter();
+    answer = __real_display_arrive(state, state_length, queue, queue_length, byte, signal);
+    leave(answer, signal, *signal != DISPLAY_SIGNAL_NONE);
+    given_by_arrivals = given.count;
+    return answer;
+}
+
+uint32_t __wrap_display_take(const uint8_t *state, size_t state_length, uint8_t *queue, size_t queue_length,
+                             uint8_t *byte, uint8_t *signal)
+{
+    uint32_t answer;
+    enter();
+    answer = __real_display_take(state, state_length, queue, queue_length, byte, signal);
+    return leave(answer, signal, *signal != DISPLAY_SIGNAL_NONE);
+}
+
+uint32_t start(size_t store_length)
+{
+    host.count = given.count = replies.count = given_by_arrivals = 0;
+    allowance = WIRE;
+    memset(answers, 0, sizeof answers);
+    return port_start(&port, store, store_length, host_reads, &host);
+}
+
+void fresh(void)
+{
+    memset(&port, 0xA5, sizeof port);
+    memset(store, 0xA5, sizeof store);
+    memset(store, 0, DISPLAY_DIRECTORY_SIZE);
+    CHECK("start", DISPLAY_OK, start(DISPLAY_STORE_LEAST));
+}
+
+void receive(const uint8_t *bytes, size_t count)
+{
+    size_t i;
+    for (i = 0; i < count; i++)
+        port_receive(&port, bytes[i]);
+}
+
+uint32_t poll(void)
+{
+    uint32_t answer = port_poll(&port);
+    late += answer == DISPLAY_OK && allowance > 0 && host.count < given.count;
+    return answer;
+}
+
+void drain(void)
+{
+    unsigned rounds = 0;
+    while ((port_waiting(&port) > 0 || host.count < given.count) && rounds < WIRE && poll() == DISPLAY_OK)
+        rounds++;
+    CHECK("bytes left waiting", 0, port_waiting(&port));
+    CHECK_BYTES("the wire, in the order of the calls", &host, given.bytes, given.count);
+}
+
+void check_manners(void)
+{
+    CHECK("calls during a call", 0, overlaps);
+    CHECK("rounds that kept back what the host would have read", 0, late);
+}

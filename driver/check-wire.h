@@ -1,0 +1,67 @@
+// Scaffolding of check-port.c and check-streams.c: one display behind the port driver, a host that reads no more than
+// it is allowed, spies between driver and library, and checks that count themselves.
+#ifndef CHECK_WIRE_H
+#define CHECK_WIRE_H
+
+#include "port.h"
+
+#include <string.h>
+
+enum { WIRE = 1 << 16 };
+
+typedef struct {
+    uint8_t bytes[WIRE];
+    size_t count;
+} Bytes;
+
+extern Port port;
+extern uint8_t store[DISPLAY_STORE_MOST + 1];
+extern Bytes host;             // what the host has read
+extern size_t allowance;       // how much more it reads
+extern Bytes replies;          // what feeds gave, as they gave it
+extern unsigned calls;         // of feed, arrive and take
+extern unsigned answers[8];    // of these calls, since the start
+extern void (*interrupt)(void); // strikes during each of them
+extern unsigned checks, failures;
+
+// The display's commands and the handshake of an upload.
+enum {
+    COMMAND = 254, PURGE = 33, UPLOAD_FONT = 36, FONT = 49, METRICS = 50, SERIAL_NUMBER = 52, FLOW_ON = 58,
+    FLOW_OFF = 59, CONTRAST = 80, CLEAR = 88, UPLOAD_BITMAP = 94, SHOW_BITMAP = 98, BITMAP_IN_LINE = 100, SET_BAR = 103,
+    WRITE_BAR = 105, SET_STRIP = 106, SHIFT_STRIP = 107, LINE = 108, PIXEL = 112, RECTANGLE = 120, TEXT_POINT = 121,
+    DELETE_FILE = 173
+};
+enum { ACCEPTED = 1, DECLINED = 8, CONFIRM = 1 };
+
+void check(const char *file, int line, const char *what, unsigned long expected, unsigned long got);
+#define CHECK(what, expected, got) check(__FILE__, __LINE__, what, expected, got)
+
+void check_bytes(const char *file, int line, const char *what, const Bytes *got, const uint8_t *expected, size_t count);
+#define BYTES(...) (const uint8_t[]){__VA_ARGS__}, sizeof(const uint8_t[]){__VA_ARGS__}
+#define CHECK_BYTES(what, got, ...) check_bytes(__FILE__, __LINE__, what, got, __VA_ARGS__)
+
+// Forgets the wire, and starts the driver with a host that reads everything.
+uint32_t start(size_t store_length);
+
+// A display just started, with an empty store of the least size.
+void fresh(void);
+
+void receive(const uint8_t *bytes, size_t count);
+#define RECEIVE(...) receive(BYTES(__VA_ARGS__))
+
+uint32_t poll(void);
+
+// Rounds until nothing waits any more; then the host must have read what the calls gave, in their order.
+void drain(void);
+
+// Calls that overlapped, and rounds that kept back what the host would have read at once.
+void check_manners(void);
+
+// The library's own call, past the spies.
+uint32_t __real_display_feed(uint8_t *glass, size_t glass_length, uint8_t *files, size_t files_length, uint8_t *state,
+                             size_t state_length, const uint8_t *piece, size_t piece_length, uint8_t *to,
+                             size_t to_length, size_t *consumed, size_t *replied);
+
+void check_streams(void);
+
+#endif

@@ -1,0 +1,134 @@
+// Signals and replies go into the transmit buffer in the order in which the calls give them. Whatever the host does,
+// they find room there:
+//
+//   - From one feed to the next, arrivals give one signal at most. It raises the mark; while flow control is on only a
+//     take lowers it, and takes are followed by a feed at once; while it is off only a feed turns it on. A byte is kept
+//     free for this signal, since arrivals cannot be put off.
+//   - A feed needs DISPLAY_REPLY_ROOM for its first byte, and writes no more than it is lent.
+//   - Takes without an arrival between them give one signal at most, since only an arrival raises the mark.
+#include "port.h"
+
+#include <string.h>
+
+enum {
+    ROOM_FOR_ARRIVALS = 1,
+    ROOM_TO_FEED = DISPLAY_REPLY_ROOM + ROOM_FOR_ARRIVALS,
+    ROOM_TO_TAKE = 1 + ROOM_TO_FEED
+};
+
+#define RECORDS(port) (port)->state, sizeof(port)->state, (port)->queue, sizeof(port)->queue
+
+static size_t room(const Port *port)
+{
+    return PORT_TRANSMIT_SIZE - port->transmit_length;
+}
+
+// There is room, unless the records were damaged into others that are sound.
+static void put_signal(Port *port, uint8_t signal)
+{
+    if (signal != DISPLAY_SIGNAL_NONE && room(port) > 0)
+        port->transmit[port->transmit_length++] = signal;
+}
+
+static void transmit(Port *port)
+{
+    size_t sent;
+    if (port->transmit_length == 0)
+        return;
+    sent = port->send(port->wire, port->transmit, port->transmit_length);
+    port->transmit_length -= sent;
+    memmove(port->transmit, port->transmit + sent, port->transmit_length);
+}
+
+// What comes during the round is left for the next one. A byte that finds the queue full is lost, and counted there.
+static uint32_t hand_in(Port *port)
+{
+    uint8_t start = port->receive_start, end = port->receive_end, signal;
+    while (start != end) {
+        uint32_t answer = display_arrive(RECORDS(port), port->receive[start % PORT_RECEIVE_SIZE], &signal);
+        if (answer == DISPLAY_BAD_RECORD)
+            return answer;
+        port->receive_start = ++start;
+        port->queued += answer == DISPLAY_OK;
+        put_signal(port, signal);
+    }
+    return DISPLAY_OK;
+}
+
+// A feed looks through all of the memory before it obeys its first byte, so it is given several.
+static uint32_t take_piece(Port *port)
+{
+    while (port->piece_length < PORT_PIECE_SIZE) {
+        uint8_t byte, signal;
+        uint32_t answer = display_take(RECORDS(port), &byte, &signal);
+        if (answer != DISPLAY_OK)
+            return answer == DISPLAY_QUEUE_EMPTY ? DISPLAY_OK : answer;
+        port->queued--;
+        port->piece[port->piece_length++] = byte;
+        put_signal(port, signal);
+    }
+    return DISPLAY_OK;
+}
+
+// Where the reply room ends before the piece does, the rest stays for a round that has sent some.
+static uint32_t feed_piece(Port *port)
+{
+    size_t consumed, replied;
+    uint32_t answer = display_feed(port->framebuffer, sizeof port->framebuffer, port->store, port->store_length,
+                                   port->state, sizeof port->state, port->piece, port->piece_length,
+                                   port->transmit + port->transmit_length, room(port) - ROOM_FOR_ARRIVALS, &consumed,
+                                   &replied);
+    port->transmit_length += replied;
+    port->piece_length -= consumed;
+    memmove(port->piece, port->piece + consumed, port->piece_length);
+    return answer == DISPLAY_NO_REPLY_ROOM ? DISPLAY_OK : answer;
+}
+
+uint32_t port_start(Port *port, uint8_t *store, size_t store_length, PortSend *send, void *wire)
+{
+    port->store = store;
+    port->store_length = store_length;
+    port->send = send;
+    port->wire = wire;
+    port->receive_start = 0;
+    port->receive_end = 0;
+    port->overruns = 0;
+    port->queued = 0;
+    port->piece_length = 0;
+    port->transmit_length = 0;
+    port->answer = display_start(port->framebuffer, sizeof port->framebuffer, store, store_length, RECORDS(port));
+    return port->answer;
+}
+
+void port_receive(Port *port, uint8_t byte)
+{
+    uint8_t end = port->receive_end;
+    if ((uint8_t)(end - port->receive_start) < PORT_RECEIVE_SIZE) {
+        port->receive[end % PORT_RECEIVE_SIZE] = byte;
+        port->receive_end = (uint8_t)(end + 1);
+    } else if (port->overruns < 255) {
+        port->overruns++;
+    }
+}
+
+// Sends twice: a signal does not wait for the piece to be obeyed, nor a reply for the next round.
+uint32_t port_poll(Port *port)
+{
+    if (port->answer == DISPLAY_OK)
+        port->answer = hand_in(port);
+    if (port->answer != DISPLAY_OK)
+        return port->answer;
+    transmit(port);
+    if (port->piece_length == 0 && room(port) >= ROOM_TO_TAKE)
+        port->answer = take_piece(port);
+    if (port->answer == DISPLAY_OK && port->piece_length > 0 && room(port) >= ROOM_TO_FEED)
+        port->answer = feed_piece(port);
+    if (port->answer == DISPLAY_OK)
+        transmit(port);
+    return port->answer;
+}
+
+size_t port_waiting(const Port *port)
+{
+    return (uint8_t)(port->receive_end - port->receive_start) + port->queued + port->piece_length;
+}

@@ -1,0 +1,67 @@
+// A reference port driver: one display on one serial line, for a board to copy. C99 and C++11, no operating system.
+//
+// The board calls port_start once, port_receive from its receive interrupt and port_poll from its main loop. Between
+// rounds it reads framebuffer and records, and brings framebuffer, contrast and backlight to the panel.
+
+#ifndef PORT_H
+#define PORT_H
+
+#include "display.h"
+
+#ifdef __cplusplus
+extern "C" {
+#endif
+
+#define PORT_RECEIVE_SIZE 128u // bytes that may come during one round: a power of two, at most 128
+#define PORT_PIECE_SIZE 16u    // bytes obeyed in one round at most
+#define PORT_TRANSMIT_SIZE 32u // bytes that wait for the wire at most: 4 or more
+
+// Hands bytes to the wire, and says how many of them, from the first on, it has accepted. It may accept none.
+typedef size_t PortSend(void *wire, const uint8_t *bytes, size_t count);
+
+// Framebuffer and records stand in it as arrays, so their lengths are right and they share no byte.
+typedef struct {
+    uint8_t framebuffer[DISPLAY_FRAMEBUFFER_SIZE];
+    uint8_t state[DISPLAY_STATE_RECORD_SIZE];
+    uint8_t queue[DISPLAY_QUEUE_RECORD_SIZE];
+    uint8_t *store;
+    size_t store_length;
+    PortSend *send;
+    void *wire;
+    uint32_t answer; // of the start or of the call that stopped the driver; DISPLAY_OK while it runs
+
+    // The ring between handler and main loop. Each index is one byte and has one writer, so no lock is needed; volatile
+    // keeps the order of the accesses. That is enough on one core.
+    volatile uint8_t receive[PORT_RECEIVE_SIZE];
+    volatile uint8_t receive_end;   // the handler writes it
+    volatile uint8_t receive_start; // the main loop writes it
+    volatile uint8_t overruns;      // bytes that found the ring full; stays at 255
+
+    size_t queued; // bytes in the queue record
+    uint8_t piece[PORT_PIECE_SIZE]; // taken, not yet fed
+    size_t piece_length;
+    uint8_t transmit[PORT_TRANSMIT_SIZE]; // given by the calls, not yet sent
+    size_t transmit_length;
+} Port;
+
+// Power-up, over a store of the board's; `wire` goes to every call of `send`. Only with the receive interrupt off.
+// The answer of display_start. Unless it is DISPLAY_OK the driver does nothing from now on, and the store is as it was:
+// what to do about a store of a wrong size or with a broken directory is for the board to decide.
+uint32_t port_start(Port *port, uint8_t *store, size_t store_length, PortSend *send, void *wire);
+
+// A byte has come on the wire. For the interrupt handler.
+void port_receive(Port *port, uint8_t byte);
+
+// One round: hands in what has come, obeys up to PORT_PIECE_SIZE bytes, sends what the wire accepts.
+// DISPLAY_OK. Any other answer means that memory was damaged: the driver has stopped, and only port_start helps.
+uint32_t port_poll(Port *port);
+
+// Bytes received and not yet obeyed. While they are fewer than DISPLAY_QUEUE_CAPACITY one more is sure not to be lost:
+// a board with a handshake line holds the host back by it.
+size_t port_waiting(const Port *port);
+
+#ifdef __cplusplus
+}
+#endif
+
+#endif
