@@ -86,14 +86,16 @@ static void strike(void)
 // `cluster`: bytes that come between two rounds at most. `pace`: bytes that the host reads in a round at most.
 static void run_through_driver(unsigned cluster, unsigned pace)
 {
+    unsigned rounds;
     received = 0;
     interrupt = strike;
-    while (received < stream.count) {
+    for (rounds = 0; received < stream.count && rounds < 100 * LENGTH; rounds++) {
         receive_some(cluster);
         allowance = below(3) > 0 ? below(pace + 1) : 0;
         if (poll() != DISPLAY_OK)
             return;
     }
+    CHECK("bytes of the stream received", stream.count, received);
     interrupt = NULL;
     allowance = WIRE;
     drain();

@@ -6,14 +6,16 @@
 Port port;
 uint8_t store[DISPLAY_STORE_MOST + 1];
 Bytes host, replies;
-size_t allowance;
+size_t allowance, unfed;
 unsigned calls, answers[8], checks, failures;
 void (*interrupt)(void);
 
 static Bytes given;              // signals and replies
 static size_t given_by_arrivals; // length of `given` at the last arrival
+static size_t unfed_before;      // the round
+static size_t just_taken;        // since the last feed
 static int in_call;
-static unsigned overlaps, late;
+static unsigned overlaps, late, hoarded, stranded, starved;
 
 void check(const char *file, int line, const char *what, unsigned long expected, unsigned long got)
 {
@@ -74,11 +76,14 @@ uint32_t __wrap_display_feed(uint8_t *glass, size_t glass_length, uint8_t *files
                              size_t to_length, size_t *consumed, size_t *replied)
 {
     uint32_t answer;
-    enter();
     late += allowance > 0 && host.count < given_by_arrivals;
+    enter();
     answer = __real_display_feed(glass, glass_length, files, files_length, state, state_length, piece, piece_length, to,
                                  to_length, consumed, replied);
     append(&replies, to, *replied);
+    starved += to_length < DISPLAY_REPLY_ROOM;
+    unfed -= *consumed;
+    just_taken = 0;
     return leave(answer, to, *replied);
 }
 
@@ -99,12 +104,15 @@ uint32_t __wrap_display_take(const uint8_t *state, size_t state_length, uint8_t 
     uint32_t answer;
     enter();
     answer = __real_display_take(state, state_length, queue, queue_length, byte, signal);
+    hoarded += unfed_before > 0;
+    unfed += answer == DISPLAY_OK;
+    just_taken += answer == DISPLAY_OK;
     return leave(answer, signal, *signal != DISPLAY_SIGNAL_NONE);
 }
 
 uint32_t start(size_t store_length)
 {
-    host.count = given.count = replies.count = given_by_arrivals = 0;
+    host.count = given.count = replies.count = given_by_arrivals = unfed = just_taken = 0;
     allowance = WIRE;
     memset(answers, 0, sizeof answers);
     return port_start(&port, store, store_length, host_reads, &host);
@@ -125,10 +133,21 @@ void receive(const uint8_t *bytes, size_t count)
         port_receive(&port, bytes[i]);
 }
 
+void receive_upload(void)
+{
+    uint8_t i;
+    RECEIVE(COMMAND, UPLOAD_BITMAP, 7, DATA, 0);
+    for (i = 0; i < DATA; i++)
+        RECEIVE((uint8_t)(100 + i), CONFIRM);
+}
+
 uint32_t poll(void)
 {
-    uint32_t answer = port_poll(&port);
+    uint32_t answer;
+    unfed_before = unfed;
+    answer = port_poll(&port);
     late += answer == DISPLAY_OK && allowance > 0 && host.count < given.count;
+    stranded += answer == DISPLAY_OK && just_taken > 0;
     return answer;
 }
 
@@ -145,4 +164,7 @@ void check_manners(void)
 {
     CHECK("calls during a call", 0, overlaps);
     CHECK("rounds that kept back what the host would have read", 0, late);
+    CHECK("takes while older bytes were still to be fed", 0, hoarded);
+    CHECK("rounds that took bytes and fed none", 0, stranded);
+    CHECK("feeds without room for a byte", 0, starved);
 }

@@ -1,5 +1,5 @@
-// Scaffolding of check-port.c and check-streams.c: one display behind the port driver, a host that reads no more than
-// it is allowed, spies between driver and library, and checks that count themselves.
+// Scaffolding of check-port.c, check-flow.c and check-streams.c: one display behind the port driver, a host that
+// reads no more than it is allowed, spies between driver and library, and checks that count themselves.
 #ifndef CHECK_WIRE_H
 #define CHECK_WIRE_H
 
@@ -21,6 +21,7 @@ extern size_t allowance;       // how much more it reads
 extern Bytes replies;          // what feeds gave, as they gave it
 extern unsigned calls;         // of feed, arrive and take
 extern unsigned answers[8];    // of these calls, since the start
+extern size_t unfed;           // bytes taken and not yet fed
 extern void (*interrupt)(void); // strikes during each of them
 extern unsigned checks, failures;
 
@@ -32,6 +33,7 @@ enum {
     DELETE_FILE = 173
 };
 enum { ACCEPTED = 1, DECLINED = 8, CONFIRM = 1 };
+enum { QUEUE = DISPLAY_QUEUE_CAPACITY, RING = PORT_RECEIVE_SIZE, PIECE = PORT_PIECE_SIZE };
 
 void check(const char *file, int line, const char *what, unsigned long expected, unsigned long got);
 #define CHECK(what, expected, got) check(__FILE__, __LINE__, what, expected, got)
@@ -49,12 +51,16 @@ void fresh(void);
 void receive(const uint8_t *bytes, size_t count);
 #define RECEIVE(...) receive(BYTES(__VA_ARGS__))
 
+// An upload that fills the queue: its header and so many bytes of data, 100, 101, ..., each confirmed.
+enum { HEADER = 5, DATA = (QUEUE - HEADER) / 2 };
+void receive_upload(void);
+
 uint32_t poll(void);
 
 // Rounds until nothing waits any more; then the host must have read what the calls gave, in their order.
 void drain(void);
 
-// Calls that overlapped, and rounds that kept back what the host would have read at once.
+// What no round may do, whatever the wire does: counted all along, checked at the end.
 void check_manners(void);
 
 // The library's own call, past the spies.
@@ -62,6 +68,7 @@ uint32_t __real_display_feed(uint8_t *glass, size_t glass_length, uint8_t *files
                              size_t state_length, const uint8_t *piece, size_t piece_length, uint8_t *to,
                              size_t to_length, size_t *consumed, size_t *replied);
 
+void check_flow(void);
 void check_streams(void);
 
 #endif
