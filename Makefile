@@ -1,13 +1,19 @@
-# make test: every test. make demo: the main job. make fuzz SECONDS=n: the comparison with new seeds. make bench: speed.
-.PHONY: test demo fuzz bench listing archive
+# make test: every test. make demo: the main job. make simulator: a display on a pseudo-terminal, target/bin/simulator.
+# make fuzz SECONDS=n: the comparison with new seeds. make bench: speed.
+.PHONY: test demo simulator fuzz bench listing archive
 
 SECONDS ?= 60
 
 test:
 	@tools/run-tests
 
-demo: listing
+demo: listing simulator
 	@demo/sample-page | target/bin/listing
+	@demo/sample-page | target/bin/simulator --replay - --png target/sample-page.png
+	@echo 'The same picture is in target/sample-page.png.'
+
+simulator: archive
+	@mkdir -p target/bin && simulator/build target/staticlib target/bin/simulator -O2
 
 fuzz: archive
 	@cd tests/compare && DISPLAY_ARCHIVE_DIR=$(CURDIR)/target/staticlib CARGO_TARGET_DIR=$(CURDIR)/target/tests \

@@ -1,0 +1,244 @@
+#define _XOPEN_SOURCE 700
+
+#include "simulator.h"
+
+#include <errno.h>
+#include <fcntl.h>
+#include <stdio.h>
+#include <stdlib.h>
+#include <string.h>
+#include <sys/select.h>
+#include <unistd.h>
+
+static Port port;
+static StoreFile store;
+static Terminal terminal;
+static Options options;
+static int live; // the picture is shown as it changes, and not at the end
+static volatile sig_atomic_t ended, png_wanted;
+
+static void catch_end(int number)
+{
+    (void)number;
+    ended = 1;
+}
+
+static void catch_request(int number)
+{
+    png_wanted |= number == SIGUSR1;
+}
+
+// What the caller has had ignored stays so, as nohup asks for.
+static void on_signal(int number, void (*handler)(int))
+{
+    struct sigaction action;
+    sigaction(number, NULL, &action);
+    if (action.sa_handler == SIG_IGN)
+        return;
+    memset(&action, 0, sizeof action);
+    action.sa_handler = handler;
+    sigemptyset(&action.sa_mask);
+    sigaction(number, &action, NULL);
+}
+
+static void catch_signals(void)
+{
+    static const int ends[] = {SIGINT, SIGTERM, SIGHUP, SIGQUIT};
+    size_t i;
+    for (i = 0; i < sizeof ends / sizeof *ends; i++)
+        on_signal(ends[i], catch_end);
+    on_signal(SIGUSR1, catch_request);
+    on_signal(SIGWINCH, catch_request);
+    on_signal(SIGPIPE, SIG_IGN);
+}
+
+// A file opened later must not take the place of one of the first three.
+static int open_standard_files(void)
+{
+    int number, closed = 0;
+    for (number = 0; number < 3; number++) {
+        if (fcntl(number, F_GETFD) >= 0)
+            continue;
+        closed |= number == STDOUT_FILENO;
+        if (open("/dev/null", O_RDWR) < 0)
+            return -1;
+    }
+    if (closed)
+        report("standard output is closed");
+    return closed ? -1 : 0;
+}
+
+static int start(PortSend *send)
+{
+    uint32_t answer;
+    if (store_open(&store, options.store) < 0)
+        return -1;
+    answer = port_start(&port, store.bytes, store.length, send, &terminal);
+    if (answer == DISPLAY_BAD_STORE_SIZE)
+        report("%s is no store: it must have %u to %u bytes", store.path, DISPLAY_STORE_LEAST, DISPLAY_STORE_MOST);
+    else if (answer == DISPLAY_BAD_DIRECTORY)
+        report("%s is no store: its first %u bytes break the rules of a directory", store.path, DISPLAY_DIRECTORY_SIZE);
+    if (answer != DISPLAY_OK)
+        return -1;
+    if (store.path != NULL && file_can_save(store.path) < 0)
+        return -1;
+    return options.png != NULL ? png_can_save(options.png) : 0;
+}
+
+// One round of the driver.
+static int poll_port(void)
+{
+    uint32_t answer = port_poll(&port);
+    if (answer == DISPLAY_OK)
+        return 0;
+    report("the port driver has stopped with answer %lu", (unsigned long)answer);
+    return -1;
+}
+
+// Bytes are only read while they find room in the queue; the others wait in the file or the terminal.
+static size_t room(void)
+{
+    size_t waiting = port_waiting(&port);
+    return waiting < DISPLAY_QUEUE_CAPACITY ? DISPLAY_QUEUE_CAPACITY - waiting : 0;
+}
+
+static void receive(const uint8_t *bytes, size_t count)
+{
+    size_t i;
+    for (i = 0; i < count; i++)
+        port_receive(&port, bytes[i]);
+}
+
+static size_t throw_away(void *wire, const uint8_t *bytes, size_t count)
+{
+    (void)wire;
+    (void)bytes;
+    return count;
+}
+
+static int replay(const char *path)
+{
+    uint8_t bytes[DISPLAY_QUEUE_CAPACITY];
+    int file = strcmp(path, "-") == 0 ? STDIN_FILENO : open(path, O_RDONLY);
+    ssize_t count = 1;
+    while (file >= 0 && !ended && (count > 0 || port_waiting(&port) > 0)) {
+        if (count > 0)
+            count = read(file, bytes, room());
+        if (count > 0)
+            receive(bytes, (size_t)count);
+        if (poll_port() < 0)
+            return -1;
+    }
+    if (file >= 0 && (count >= 0 || ended))
+        return 0;
+    report("cannot read %s: %s", path, strerror(errno));
+    return -1;
+}
+
+static void save_png(void)
+{
+    if (options.png == NULL)
+        report("no --png FILE was given");
+    else if (png_save(options.png, port.framebuffer) == 0)
+        report("wrote %s", options.png);
+}
+
+// Until the terminal can go on, a key is pressed, a signal comes or so many milliseconds are over, -1 for no limit.
+static void wait_for_work(int milliseconds, const sigset_t *signals)
+{
+    struct timespec limit = {milliseconds / 1000, milliseconds % 1000 * 1000000L};
+    fd_set readable, writable;
+    FD_ZERO(&readable);
+    FD_ZERO(&writable);
+    if (room() > 0)
+        FD_SET(terminal.master, &readable);
+    if (terminal.blocked)
+        FD_SET(terminal.master, &writable);
+    if (screen_has_keys())
+        FD_SET(STDIN_FILENO, &readable);
+    if (pselect(terminal.master + 1, &readable, &writable, NULL, milliseconds < 0 ? NULL : &limit, signals) > 0 &&
+        FD_ISSET(STDIN_FILENO, &readable)) {
+        int key = screen_key();
+        ended |= key == 'q';
+        png_wanted |= key == 'p';
+    }
+}
+
+// One round of everything. Sets `*patience` to the milliseconds for which there is nothing to do.
+static int serve_round(int *patience)
+{
+    uint8_t bytes[DISPLAY_QUEUE_CAPACITY];
+    size_t count, waiting;
+    if (terminal_read(&terminal, bytes, room(), &count) < 0)
+        return -1;
+    receive(bytes, count);
+    waiting = port_waiting(&port);
+    terminal.sent = 0;
+    if (poll_port() < 0)
+        return -1;
+    if (store_directory_changed(&store))
+        store_save(&store);
+    if (png_wanted)
+        save_png();
+    png_wanted = 0;
+    ended |= screen_update(&port, patience) < 0;
+    if (count > 0 || terminal.sent > 0 || port_waiting(&port) != waiting)
+        *patience = 0;
+    return 0;
+}
+
+// Signals strike while it waits and at no other time.
+static int serve(void)
+{
+    sigset_t all, before;
+    int patience, result = 0;
+    sigfillset(&all);
+    sigprocmask(SIG_BLOCK, &all, &before);
+    while (!ended && result == 0) {
+        result = serve_round(&patience);
+        if (result == 0)
+            wait_for_work(patience, &before);
+    }
+    sigprocmask(SIG_SETMASK, &before, NULL);
+    return result;
+}
+
+static int serve_terminal(void)
+{
+    int result;
+    if (terminal_open(&terminal) < 0)
+        return -1;
+    if (puts(terminal.name) < 0 || fflush(stdout) != 0) {
+        report("cannot write to standard output: %s", strerror(errno));
+        return -1;
+    }
+    live = screen_is_possible();
+    if (live)
+        screen_open(terminal.name, &options);
+    result = serve();
+    screen_close();
+    return result;
+}
+
+// The store comes first, since writing the picture may fail or wait.
+static int finish(int result)
+{
+    if (port.answer == DISPLAY_OK && store_save(&store) < 0)
+        result = -1;
+    if (result == 0 && options.png != NULL)
+        result = png_save(options.png, port.framebuffer);
+    if (result == 0 && !live)
+        result = view_print(&port, options.blocks);
+    return result;
+}
+
+int main(int count, char **arguments)
+{
+    int result;
+    options = read_options(count, arguments);
+    catch_signals();
+    if (open_standard_files() < 0 || start(options.replay != NULL ? throw_away : terminal_send) < 0)
+        return FAILED;
+    result = finish(options.replay != NULL ? replay(options.replay) : serve_terminal());
+    return result < 0 ? FAILED : DONE;
+}
