@@ -23,6 +23,7 @@ enum { FRAME_MILLISECONDS = 33, MESSAGE_SIZE = 256, LINE_SIZE = VIEW_STATUS_SIZE
 static int is_open, has_keys, blocks;
 static struct termios found; // settings of the user's terminal
 static char heading[MESSAGE_SIZE], message[MESSAGE_SIZE];
+static const char *keys = "";
 
 // What was drawn last, and when.
 static uint8_t drawn[DISPLAY_FRAMEBUFFER_SIZE];
@@ -83,8 +84,9 @@ void screen_open(const char *name, const Options *options)
 {
     blocks = options->blocks;
     take_keys();
-    snprintf(heading, sizeof heading, "%s%s%s", name, has_keys ? "  q quit" : "",
-             has_keys && options->png != NULL ? "  p PNG" : "");
+    snprintf(heading, sizeof heading, "%s", name);
+    if (has_keys)
+        keys = options->png != NULL ? "  p PNG  q quit" : "  q quit";
     is_open = 1;
     write_out(ENTER, strlen(ENTER));
 }
@@ -144,9 +146,9 @@ static void make_line(char *line, const Port *port, struct winsize size)
 {
     char status[VIEW_STATUS_SIZE], need[64] = "";
     if (size.ws_col < view_columns(blocks) || size.ws_row <= view_rows(blocks))
-        snprintf(need, sizeof need, "[needs %u by %u]  ", view_columns(blocks), view_rows(blocks) + 1);
+        snprintf(need, sizeof need, "  [needs %u by %u]", view_columns(blocks), view_rows(blocks) + 1);
     view_status(status, port);
-    snprintf(line, LINE_SIZE, "%s%s%s%s  %s", need, message, message[0] != '\0' ? "  " : "", status, heading);
+    snprintf(line, LINE_SIZE, "%s%s%s%s  %s%s", heading, need, message[0] != '\0' ? "  " : "", message, status, keys);
 }
 
 int screen_update(const Port *port, int *again)
