@@ -47,10 +47,14 @@ static void must(int done, const char *what)
     exit(1);
 }
 
-// In the child.
+// In the child. A test that runs in the background has signals ignored, which the simulator would respect.
 static void become(int how, const char *terminal, int out, int err)
 {
+    static const int signals[] = {SIGINT, SIGTERM, SIGHUP, SIGQUIT, SIGUSR1, SIGPIPE};
+    size_t i;
     int in = open(how == FROM_STREAM ? "stream" : "/dev/null", O_RDONLY);
+    for (i = 0; i < sizeof signals / sizeof *signals; i++)
+        signal(signals[i], SIG_DFL);
     if (how == IN_TERMINAL) {
         setsid();
         in = out = open(terminal, O_RDWR);

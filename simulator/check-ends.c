@@ -101,10 +101,15 @@ static void check_permissions(void)
     chmod("locked", 0555);
     write_file("secret", bytes, sizeof bytes);
     chmod("secret", 0);
+    mkdir("shared", 0755);
+    chmod("shared", 0777);
+    write_file("shared/store", bytes, sizeof bytes);
+    chmod("shared/store", 0444);
     FAILS(AS_NOBODY, 1, "locked/store: Permission denied", "--store", "locked/store");
     FAILS(AS_NOBODY, 1, "cannot write locked/new: Permission denied", "--store", "locked/new");
     FAILS(AS_NOBODY, 1, "cannot write locked/picture: Permission denied", "--png", "locked/picture");
     FAILS(AS_NOBODY, 1, "secret: Permission denied", "--store", "secret");
+    FAILS(AS_NOBODY, 1, "shared/store: Permission denied", "--store", "shared/store");
     CHECK("store unchanged", 1, file_is("locked/store", bytes, sizeof bytes));
     chmod("locked", 0755);
 }
