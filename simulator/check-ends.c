@@ -42,12 +42,16 @@ static void check_usage(void)
     CHECK_CONTAINS(ending.out, "usage: simulator");
 }
 
-static unsigned entries(void)
+// Temporary files, which have six characters behind a point.
+static unsigned leftovers(void)
 {
     DIR *folder = opendir(".");
+    struct dirent *entry;
     unsigned count = 0;
-    while (folder != NULL && readdir(folder) != NULL)
-        count++;
+    while (folder != NULL && (entry = readdir(folder)) != NULL) {
+        const char *point = strrchr(entry->d_name, '.');
+        count += point != NULL && strlen(point) == 7;
+    }
     closedir(folder);
     return count;
 }
@@ -55,23 +59,23 @@ static unsigned entries(void)
 static void check_bad_stores(void)
 {
     static uint8_t bytes[DISPLAY_STORE_MOST + 1];
-    unsigned before;
+    struct stat status;
     write_file("long", bytes, sizeof bytes);
     write_file("short", bytes, DISPLAY_STORE_LEAST - 1);
     write_file("empty", bytes, 0);
     bytes[DISPLAY_DIRECTORY_SIZE - 1] = 1;
     write_file("broken", bytes, DISPLAY_STORE_LEAST);
-    before = entries();
+    mkfifo("pipe", 0644);
     FAILS(PLAINLY, 1, "short is no store: it must have 1024 to 32768 bytes", "--store", "short");
     FAILS(PLAINLY, 1, "long is no store", "--store", "long");
     FAILS(PLAINLY, 1, "empty is no store", "--store", "empty");
     FAILS(PLAINLY, 1, "broken is no store: its first 256 bytes", "--store", "broken");
     FAILS(PLAINLY, 1, "broken is no store", "--replay", "stream", "--store", "broken");
     FAILS(PLAINLY, 1, "folder is not a regular file", "--store", "folder");
-    FAILS(PLAINLY, 1, "null is not a regular file", "--store", "/dev/null");
+    FAILS(PLAINLY, 1, "pipe is not a regular file", "--store", "pipe");
     FAILS(PLAINLY, 1, "cannot write missing/store: No such file", "--store", "missing/store");
     FAILS(PLAINLY, 1, "cannot read short/store: Not a directory", "--store", "short/store");
-    CHECK("files left over", 0, (long)entries() - (long)before);
+    CHECK("pipe is still one", 1, stat("pipe", &status) == 0 && S_ISFIFO(status.st_mode));
     CHECK("broken unchanged", 1, file_is("broken", bytes, DISPLAY_STORE_LEAST));
     bytes[DISPLAY_DIRECTORY_SIZE - 1] = 0;
     CHECK("long unchanged", 1, file_is("long", bytes, sizeof bytes));
@@ -86,7 +90,7 @@ static void check_bad_pictures(void)
     write_file("store", bytes, sizeof bytes);
     FAILS(PLAINLY, 1, "notes is there and is no PNG; it stays as it is", "--png", "notes");
     FAILS(PLAINLY, 1, "store is there and is no PNG", "--png", "store", "--store", "store");
-    FAILS(PLAINLY, 1, "null is not a regular file", "--png", "/dev/null");
+    FAILS(PLAINLY, 1, "pipe is not a regular file", "--png", "pipe");
     FAILS(PLAINLY, 1, "cannot write missing/picture: No such file", "--png", "missing/picture");
     CHECK("notes unchanged", 1, file_is("notes", "no picture", 10));
     CHECK("store unchanged", 1, file_is("store", bytes, sizeof bytes));
@@ -118,11 +122,13 @@ static void check_permissions(void)
 // not lost it. The second run shows the bitmap of the first, through a link.
 static void check_two_runs(void)
 {
+    static const uint8_t empty[DISPLAY_STORE_MOST];
     static Picture picture;
     struct stat status;
     Run run = START_NAMED(PLAINLY, "--store", "files");
     int line = open_line(run.name);
     CHECK_CONTAINS(read_until(run.err, "\n"), "files did not exist; made it as an empty store of 32768 bytes");
+    CHECK("a new store", 1, file_is("files", empty, sizeof empty));
     upload_bitmap(line, 7);
     settle(line);
     close(line);
@@ -218,4 +224,5 @@ void check_ends(void)
     check_two_runs();
     check_signals();
     check_output_gone();
+    CHECK("temporary files left over", 0, leftovers());
 }

@@ -23,12 +23,12 @@ static void check_ending(const char *status_line)
     CHECK_CONTAINS(status == NULL ? "no picture" : status, status_line);
 }
 
-// Serial number, uploads accepted and refused; a second client finds the display as the first left it. It keeps the
-// terminal's own settings, which must be as good.
+// Serial number, uploads accepted and refused. The first client leaves the terminal's settings alone, which must be good
+// enough; the second finds the display as the first left it.
 static void check_wire(void)
 {
     Run run = START_NAMED(PLAINLY, NULL);
-    int line = open_line(run.name);
+    int line = open(run.name, O_RDWR | O_NOCTTY);
     static Picture picture;
     SEND(line, 254, 52, 18, 52);
     EXPECT(line, 18, 52);
@@ -38,7 +38,7 @@ static void check_wire(void)
     SEND(line, 254, 36, 1, 9, 0);
     EXPECT(line, 8);
     close(line);
-    line = open(run.name, O_RDWR | O_NOCTTY);
+    line = open_line(run.name);
     SEND(line, 254, 94, 7, 3, 0);
     EXPECT(line, 8);
     SEND(line, 254, 98, 7, 10, 20, 254, 52, 0, 0);

@@ -33,15 +33,16 @@ static struct timespec drawn_at;
 
 void report(const char *format, ...)
 {
-    char text[MESSAGE_SIZE];
     va_list arguments;
     va_start(arguments, format);
-    vsnprintf(text, sizeof text, format, arguments);
+    if (is_open) {
+        vsnprintf(message, sizeof message, format, arguments);
+    } else {
+        fprintf(stderr, "simulator: ");
+        vfprintf(stderr, format, arguments);
+        fprintf(stderr, "\n");
+    }
     va_end(arguments);
-    if (is_open)
-        strcpy(message, text);
-    else
-        fprintf(stderr, "simulator: %s\n", text);
 }
 
 static int write_out(const char *text, size_t length)

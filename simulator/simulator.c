@@ -4,8 +4,8 @@
 
 #include <errno.h>
 #include <fcntl.h>
+#include <signal.h>
 #include <stdio.h>
-#include <stdlib.h>
 #include <string.h>
 #include <sys/select.h>
 #include <unistd.h>
@@ -126,6 +126,8 @@ static int replay(const char *path)
             count = read(file, bytes, room());
         if (count > 0)
             receive(bytes, (size_t)count);
+        if (count < 0 && errno == EINTR)
+            count = 1;
         if (poll_port() < 0)
             return -1;
     }
@@ -220,25 +222,24 @@ static int serve_terminal(void)
     return result;
 }
 
-// The store comes first, since writing the picture may fail or wait.
-static int finish(int result)
+// The store comes first, since writing the picture may fail or wait. After a failure there is no picture to show.
+static int finish(int failed)
 {
+    int shown = !failed;
     if (port.answer == DISPLAY_OK && store_save(&store) < 0)
-        result = -1;
-    if (result == 0 && options.png != NULL)
-        result = png_save(options.png, port.framebuffer);
-    if (result == 0 && !live)
-        result = view_print(&port, options.blocks);
-    return result;
+        failed = 1;
+    if (shown && options.png != NULL && png_save(options.png, port.framebuffer) < 0)
+        failed = 1;
+    if (shown && !live && view_print(&port, options.blocks) < 0)
+        failed = 1;
+    return failed ? FAILED : DONE;
 }
 
 int main(int count, char **arguments)
 {
-    int result;
     options = read_options(count, arguments);
     catch_signals();
     if (open_standard_files() < 0 || start(options.replay != NULL ? throw_away : terminal_send) < 0)
         return FAILED;
-    result = finish(options.replay != NULL ? replay(options.replay) : serve_terminal());
-    return result < 0 ? FAILED : DONE;
+    return finish((options.replay != NULL ? replay(options.replay) : serve_terminal()) < 0);
 }

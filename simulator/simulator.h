@@ -4,8 +4,6 @@
 
 #include "port.h"
 
-#include <signal.h>
-
 // Exit statuses.
 enum { DONE = 0, FAILED = 1, MISUSED = 2 };
 
@@ -82,13 +80,15 @@ typedef struct {
     char *path; // null for a store that is not kept
     size_t length;
     uint8_t bytes[DISPLAY_STORE_MOST + 1];
-    uint8_t saved[DISPLAY_STORE_MOST + 1]; // what the file holds
+    uint8_t saved[DISPLAY_STORE_MOST + 1];     // what the file holds
+    uint8_t directory[DISPLAY_DIRECTORY_SIZE]; // when it was last saved, or should have been
 } StoreFile;
 
 // An empty store, or the one in the file, which is made if there is none. A file of a wrong length or with wrong
 // contents is read all the same: the display's start judges it.
 int store_open(StoreFile *store, const char *path);
 
+// Since the last save; one that failed is not tried again before the next change.
 int store_directory_changed(const StoreFile *store);
 
 // Writes the file if the store has changed.

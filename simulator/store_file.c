@@ -34,16 +34,18 @@ int store_open(StoreFile *store, const char *path)
         report("%s did not exist; made it as an empty store of %u bytes", path, DISPLAY_STORE_MOST);
     }
     memcpy(store->saved, store->bytes, sizeof store->saved);
+    memcpy(store->directory, store->bytes, sizeof store->directory);
     return found < 0 ? -1 : 0;
 }
 
 int store_directory_changed(const StoreFile *store)
 {
-    return memcmp(store->saved, store->bytes, DISPLAY_DIRECTORY_SIZE) != 0;
+    return memcmp(store->directory, store->bytes, sizeof store->directory) != 0;
 }
 
 int store_save(StoreFile *store)
 {
+    memcpy(store->directory, store->bytes, sizeof store->directory);
     if (store->path != NULL && memcmp(store->saved, store->bytes, store->length) != 0 &&
         file_save(store->path, store->bytes, store->length) < 0)
         return -1;
