@@ -194,6 +194,30 @@ static void check_signals(void)
     }
 }
 
+// The store's folder is removed: one message at the change, one at the end, and the display goes on between them.
+static void check_unsaved(void)
+{
+    const char *at;
+    long messages = 0;
+    Run run;
+    int line;
+    mkdir("passing", 0755);
+    run = START_NAMED(PLAINLY, "--store", "passing/store");
+    line = open_line(run.name);
+    read_until(run.err, "\n");
+    unlink("passing/store");
+    CHECK("folder removed", 0, rmdir("passing"));
+    upload_bitmap(line, 7);
+    settle(line);
+    settle(line);
+    close(line);
+    end_by(&run, SIGTERM);
+    CHECK("exit status", 1, ending.status);
+    for (at = ending.err; (at = strstr(at, "store: No such file")) != NULL; at++)
+        messages++;
+    CHECK("messages", 2, messages);
+}
+
 static void close_output(Run *run)
 {
     close(run->out);
@@ -223,6 +247,7 @@ void check_ends(void)
     check_permissions();
     check_two_runs();
     check_signals();
+    check_unsaved();
     check_output_gone();
     CHECK("temporary files left over", 0, leftovers());
 }

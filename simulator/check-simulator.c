@@ -23,8 +23,8 @@ static void check_ending(const char *status_line)
     CHECK_CONTAINS(status == NULL ? "no picture" : status, status_line);
 }
 
-// Serial number, uploads accepted and refused. The first client leaves the terminal's settings alone, which must be good
-// enough; the second finds the display as the first left it.
+// Serial number, uploads accepted and refused. The first client leaves the terminal's settings alone, and they must do;
+// the second finds the display as the first left it.
 static void check_wire(void)
 {
     Run run = START_NAMED(PLAINLY, NULL);
