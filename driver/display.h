@@ -22,7 +22,7 @@
 //
 // A driver's round: hand in what has come with display_arrive; send the replies of the round before; then, as often as
 // DISPLAY_REPLY_ROOM reply bytes are free, get a byte with display_take and obey it with display_feed. Send each signal
-// as it is given. Then bring framebuffer, contrast and backlight to the panel.
+// as it is given. Then bring framebuffer, contrast and backlight to the panel. port.h and port.c are such a driver.
 //
 //   - Replies go out before more is fed: lent less than DISPLAY_REPLY_ROOM bytes for them, display_feed consumes none
 //     of the bytes it is given and answers DISPLAY_NO_REPLY_ROOM.

@@ -10,6 +10,10 @@
 
 #include <string.h>
 
+#if PORT_RECEIVE_SIZE > 128 || (PORT_RECEIVE_SIZE & (PORT_RECEIVE_SIZE - 1)) != 0 || PORT_TRANSMIT_SIZE < 4
+#error "sizes that port.h does not allow"
+#endif
+
 enum {
     ROOM_FOR_ARRIVALS = 1,
     ROOM_TO_FEED = DISPLAY_REPLY_ROOM + ROOM_FOR_ARRIVALS,

@@ -1,7 +1,14 @@
 // A reference port driver: one display on one serial line, for a board to copy. C99 and C++11, no operating system.
 //
-// The board calls port_start once, port_receive from its receive interrupt and port_poll from its main loop. Between
-// rounds it reads framebuffer and records, and brings framebuffer, contrast and backlight to the panel.
+//
+//     static Port port;
+//     void uart_interrupt(void) { port_receive(&port, UART_DATA); }
+//     ...
+//     if (port_start(&port, store, sizeof store, uart_send, NULL) == DISPLAY_OK)
+//         while (port_poll(&port) == DISPLAY_OK)
+//             show(port.framebuffer, display_contrast(port.state), display_backlight_is_on(port.state));
+//
+// Once round this loop must take less time than PORT_RECEIVE_SIZE bytes on the wire: 66 ms at 19,200 baud.
 
 #ifndef PORT_H
 #define PORT_H
@@ -12,9 +19,9 @@
 extern "C" {
 #endif
 
-#define PORT_RECEIVE_SIZE 128u // bytes that may come during one round: a power of two, at most 128
-#define PORT_PIECE_SIZE 16u    // bytes obeyed in one round at most
-#define PORT_TRANSMIT_SIZE 32u // bytes that wait for the wire at most: 4 or more
+#define PORT_RECEIVE_SIZE 128u // bytes that may come between two rounds: a power of two, 128 at most
+#define PORT_PIECE_SIZE 16u    // bytes obeyed in one round
+#define PORT_TRANSMIT_SIZE 32u // bytes that wait for the wire: 4 at least
 
 // Hands bytes to the wire, and says how many of them, from the first on, it has accepted. It may accept none.
 typedef size_t PortSend(void *wire, const uint8_t *bytes, size_t count);
@@ -28,7 +35,7 @@ typedef struct {
     size_t store_length;
     PortSend *send;
     void *wire;
-    uint32_t answer; // of the start or of the call that stopped the driver; DISPLAY_OK while it runs
+    uint32_t answer; // what port_poll says
 
     // The ring between handler and main loop. Each index is one byte and has one writer, so no lock is needed; volatile
     // keeps the order of the accesses. That is enough on one core.
@@ -44,16 +51,17 @@ typedef struct {
     size_t transmit_length;
 } Port;
 
-// Power-up, over a store of the board's; `wire` goes to every call of `send`. Only with the receive interrupt off.
-// The answer of display_start. Unless it is DISPLAY_OK the driver does nothing from now on, and the store is as it was:
-// what to do about a store of a wrong size or with a broken directory is for the board to decide.
+// Power-up, with the receive interrupt off. `wire` goes to every call of `send`.
+// The answer of display_start. Unless it is DISPLAY_OK the store is as it was, and what to do about its size or its
+// broken directory is for the board to decide.
 uint32_t port_start(Port *port, uint8_t *store, size_t store_length, PortSend *send, void *wire);
 
 // A byte has come on the wire. For the interrupt handler.
 void port_receive(Port *port, uint8_t byte);
 
 // One round: hands in what has come, obeys up to PORT_PIECE_SIZE bytes, sends what the wire accepts.
-// DISPLAY_OK. Any other answer means that memory was damaged: the driver has stopped, and only port_start helps.
+// DISPLAY_OK, or why the driver has stopped: the start was refused, or memory has been damaged since. It does nothing
+// more until port_start.
 uint32_t port_poll(Port *port);
 
 // Bytes received and not yet obeyed. While they are fewer than DISPLAY_QUEUE_CAPACITY one more is sure not to be lost:

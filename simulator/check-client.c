@@ -55,9 +55,10 @@ static void become(int how, const char *terminal, int out, int err)
     int in = open(how == FROM_STREAM ? "stream" : "/dev/null", O_RDONLY);
     for (i = 0; i < sizeof signals / sizeof *signals; i++)
         signal(signals[i], SIG_DFL);
-    if (how == IN_TERMINAL) {
+    if (how >= WITH_KEYS) {
         setsid();
-        in = out = open(terminal, O_RDWR);
+        in = open(terminal, O_RDWR);
+        out = how == IN_TERMINAL ? in : out;
         setenv("TERM", "xterm", 1);
     }
     dup2(in, STDIN_FILENO);
@@ -87,9 +88,10 @@ Run start(int how, const char *const *arguments)
     for (i = 0; i < MOST_ARGUMENTS && arguments[i] != NULL; i++)
         copies[i + 1] = (char *)arguments[i];
     must(pipe(out) == 0 && pipe(err) == 0, "pipe");
+    run.window = how >= WITH_KEYS ? open_window(terminal, sizeof terminal) : -1;
     if (how == IN_TERMINAL) {
         close(out[0]);
-        out[0] = open_window(terminal, sizeof terminal);
+        out[0] = dup(run.window);
     }
     fflush(stdout);
     run.id = fork();
@@ -97,6 +99,7 @@ Run start(int how, const char *const *arguments)
     if (run.id == 0) {
         close(out[0]);
         close(err[0]);
+        close(run.window);
         become(how, terminal, out[1], err[1]);
         close(out[1]);
         close(err[1]);

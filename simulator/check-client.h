@@ -26,12 +26,14 @@ void check_contains(const char *file, int line, const char *text, const char *pa
 
 typedef struct {
     pid_t id;
-    int out, err;   // what it prints; `out` is a terminal for IN_TERMINAL
+    int out, err;   // what it prints
+    int window;     // the terminal, for the last two below; -1 for the others
     char name[256]; // of its pseudo-terminal
 } Run;
 
-// FROM_STREAM: the file "stream" is its standard input.
-enum { PLAINLY, FROM_STREAM, OUT_CLOSED, AS_NOBODY, IN_TERMINAL };
+// FROM_STREAM: the file "stream" is its standard input. WITH_KEYS: a terminal is. IN_TERMINAL: one is its standard
+// output too.
+enum { PLAINLY, FROM_STREAM, OUT_CLOSED, AS_NOBODY, WITH_KEYS, IN_TERMINAL };
 
 // A null pointer ends the arguments.
 Run start(int how, const char *const *arguments);

@@ -221,6 +221,7 @@ static void check_unsaved(void)
 static void close_output(Run *run)
 {
     close(run->out);
+    close(run->window);
     run->out = open("/dev/null", O_RDONLY);
 }
 

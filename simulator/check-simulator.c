@@ -209,7 +209,7 @@ static void check_live(void)
     struct winsize small = {10, 70, 0, 0};
     struct termios before, during, after;
     Run run = START_NAMED(IN_TERMINAL, "--png", "live.png");
-    int window = dup(run.out), line = open_line(run.name), fresh = posix_openpt(O_RDWR | O_NOCTTY);
+    int window = run.window, line = open_line(run.name), fresh = posix_openpt(O_RDWR | O_NOCTTY);
     before = settings_of(fresh);
     CHECK_CONTAINS(read_until(run.out, "\033[?1049h"), "\033[?1049h");
     CHECK_CONTAINS(read_until(run.out, "lost 0"), "contrast 128, backlight on, refused 0, last refusal 0, lost 0");
@@ -236,6 +236,21 @@ static void check_live(void)
     close(fresh);
 }
 
+// Keys work also where the picture is not live.
+static void check_keys(void)
+{
+    Run run = START_NAMED(WITH_KEYS, "--png", "keys.png");
+    int line = open_line(run.name);
+    settle(line);
+    close(line);
+    CHECK("key p", 1, (long)write(run.window, "p", 1));
+    CHECK_CONTAINS(read_until(run.err, "\n"), "wrote keys.png");
+    CHECK("key q", 1, (long)write(run.window, "q", 1));
+    finish(&run);
+    check_ending("contrast 128, backlight on, refused 0, last refusal 0, lost 0\n");
+    close(run.window);
+}
+
 int main(int count, char **arguments)
 {
     if (count != 2) {
@@ -252,6 +267,7 @@ int main(int count, char **arguments)
     check_replay();
     check_long_replay();
     check_live();
+    check_keys();
     check_ends();
     if (failures != 0)
         printf("check-simulator: %u failed\n", failures);

@@ -8,7 +8,6 @@
 #include <stdlib.h>
 #include <string.h>
 #include <sys/ioctl.h>
-#include <termios.h>
 #include <time.h>
 #include <unistd.h>
 
@@ -20,8 +19,7 @@ enum { FRAME_MILLISECONDS = 33, MESSAGE_SIZE = 256, LINE_SIZE = VIEW_STATUS_SIZE
 #define REST_OF_LINE "\033[K"
 #define REST_OF_SCREEN "\033[J"
 
-static int is_open, has_keys, blocks;
-static struct termios found; // settings of the user's terminal
+static int is_open, blocks;
 static char heading[MESSAGE_SIZE], message[MESSAGE_SIZE];
 static const char *keys = "";
 
@@ -65,28 +63,11 @@ int screen_is_possible(void)
     return isatty(STDOUT_FILENO) && kind != NULL && strcmp(kind, "dumb") != 0;
 }
 
-// Keys come one by one and are not shown. Control-C still interrupts; stopping would stop the display as well.
-static void take_keys(void)
-{
-    struct termios settings;
-    has_keys = isatty(STDIN_FILENO) && tcgetpgrp(STDIN_FILENO) == getpgrp() && tcgetattr(STDIN_FILENO, &found) == 0;
-    if (!has_keys)
-        return;
-    settings = found;
-    settings.c_lflag &= ~(tcflag_t)(ICANON | ECHO);
-    settings.c_iflag &= ~(tcflag_t)IXON;
-    settings.c_cc[VSUSP] = _POSIX_VDISABLE;
-    settings.c_cc[VMIN] = 0;
-    settings.c_cc[VTIME] = 0;
-    tcsetattr(STDIN_FILENO, TCSADRAIN, &settings);
-}
-
 void screen_open(const char *name, const Options *options)
 {
     blocks = options->blocks;
-    take_keys();
     snprintf(heading, sizeof heading, "%s", name);
-    if (has_keys)
+    if (keys_are_open())
         keys = options->png != NULL ? "  p PNG  q quit" : "  q quit";
     is_open = 1;
     write_out(ENTER, strlen(ENTER));
@@ -98,22 +79,8 @@ void screen_close(void)
         return;
     is_open = 0;
     write_out(LEAVE, strlen(LEAVE));
-    if (has_keys)
-        tcsetattr(STDIN_FILENO, TCSADRAIN, &found);
-    has_keys = 0;
     if (message[0] != '\0')
         report("%s", message);
-}
-
-int screen_has_keys(void)
-{
-    return has_keys;
-}
-
-int screen_key(void)
-{
-    unsigned char key;
-    return read(STDIN_FILENO, &key, 1) == 1 ? key : 'q';
 }
 
 static struct winsize window_size(void)

@@ -156,11 +156,11 @@ static void wait_for_work(int milliseconds, const sigset_t *signals)
         FD_SET(terminal.master, &readable);
     if (terminal.blocked)
         FD_SET(terminal.master, &writable);
-    if (screen_has_keys())
+    if (keys_are_open())
         FD_SET(STDIN_FILENO, &readable);
     if (pselect(terminal.master + 1, &readable, &writable, NULL, milliseconds < 0 ? NULL : &limit, signals) > 0 &&
         FD_ISSET(STDIN_FILENO, &readable)) {
-        int key = screen_key();
+        int key = keys_read();
         ended |= key == 'q';
         png_wanted |= key == 'p';
     }
@@ -214,11 +214,13 @@ static int serve_terminal(void)
         report("cannot write to standard output: %s", strerror(errno));
         return -1;
     }
+    keys_open();
     live = screen_is_possible();
     if (live)
         screen_open(terminal.name, &options);
     result = serve();
     screen_close();
+    keys_close();
     return result;
 }
 

@@ -29,17 +29,23 @@ int screen_is_possible(void);
 
 void screen_open(const char *name, const Options *options);
 
-// Leaves the terminal as it was found.
 void screen_close(void);
-
-int screen_has_keys(void);
-
-// The key that was pressed; q where the terminal is gone.
-int screen_key(void);
 
 // Draws what has changed since the last time, if that is long enough ago. Sets `*again` to the milliseconds after which
 // it wants to be called anew, -1 for never. Fails, and reports nothing, where the terminal is gone.
 int screen_update(const Port *port, int *again);
+
+// keys.c: standard input, where it is a terminal
+
+void keys_open(void);
+
+// Leaves the terminal as it was found.
+void keys_close(void);
+
+int keys_are_open(void);
+
+// The key that was pressed; q where the terminal is gone.
+int keys_read(void);
 
 // view.c: pixels as text
 

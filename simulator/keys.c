@@ -1,0 +1,43 @@
+#define _XOPEN_SOURCE 700
+
+#include "simulator.h"
+
+#include <termios.h>
+#include <unistd.h>
+
+static int are_open;
+static struct termios found; // settings of the user's terminal
+
+// Keys come one by one and are not shown. Control-C still interrupts; a stop would stop the display as well.
+void keys_open(void)
+{
+    struct termios settings;
+    are_open = isatty(STDIN_FILENO) && tcgetpgrp(STDIN_FILENO) == getpgrp() && tcgetattr(STDIN_FILENO, &found) == 0;
+    if (!are_open)
+        return;
+    settings = found;
+    settings.c_lflag &= ~(tcflag_t)(ICANON | ECHO);
+    settings.c_iflag &= ~(tcflag_t)IXON;
+    settings.c_cc[VSUSP] = _POSIX_VDISABLE;
+    settings.c_cc[VMIN] = 0;
+    settings.c_cc[VTIME] = 0;
+    tcsetattr(STDIN_FILENO, TCSADRAIN, &settings);
+}
+
+void keys_close(void)
+{
+    if (are_open)
+        tcsetattr(STDIN_FILENO, TCSADRAIN, &found);
+    are_open = 0;
+}
+
+int keys_are_open(void)
+{
+    return are_open;
+}
+
+int keys_read(void)
+{
+    unsigned char key;
+    return read(STDIN_FILENO, &key, 1) == 1 ? key : 'q';
+}
