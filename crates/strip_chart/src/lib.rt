@@ -78,7 +78,8 @@ fn shift_row(rows: &mut [u8], x1: u16, x2: u16, y: u16, right: bool)
     requires { ⌜ (x1 ≤ x2) × (x2 < 240) ⌝ }
     ensures { λ _. ⌜ now (rows .exit) ≡ shiftedRow right x1 x2 y (now (rows .entry)) ⌝ }
 {
-    let row = 240 * (y as usize);
+    // The number of the row's first pixel, as a bit of the framebuffer.
+    let row = WIDTH as usize * (y as usize);
     let end = entering(right, x1, x2);
     let mut x = leaving(right, x1, x2);
     while x != end {

@@ -9,6 +9,9 @@ Inv-loop rows₀ x1 x2 y right row end x₀ rows x = Shifting right x1 x2 y x ro
 abbrev μ-loop : tie.MeasureT-loop
 μ-loop rows₀ x1 x2 y right row end x₀ rows x = apart x end
 
+cast-row : tie.Need-cast-row Inv-loop μ-loop
+cast-row c = search needs
+
 mul-row : tie.Need-mul-row Inv-loop μ-loop
 mul-row c = search needs
 
@@ -63,6 +66,7 @@ shift-row-spec =
     (tie.spec
     Inv-loop
     μ-loop
+    cast-row
     mul-row
     entering-requires
     leaving-requires
