@@ -1,3 +1,4 @@
+// Simulators as child processes, and the serial line to them.
 #define _XOPEN_SOURCE 700
 
 #include "check-client.h"

@@ -1,3 +1,4 @@
+// A decoder for PNG files as the simulator may write them: one bit of grey, stored blocks.
 #include "check-png.h"
 
 #include <stdio.h>

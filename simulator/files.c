@@ -1,3 +1,4 @@
+// Files read and replaced whole.
 #define _XOPEN_SOURCE 700
 
 #include "simulator.h"

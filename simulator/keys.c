@@ -1,3 +1,4 @@
+// Keys from the user's terminal.
 #define _XOPEN_SOURCE 700
 
 #include "simulator.h"

@@ -1,3 +1,4 @@
+// The command line.
 #include "simulator.h"
 
 #include <stdio.h>

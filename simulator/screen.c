@@ -1,3 +1,4 @@
+// The picture in the user's terminal, drawn again as it changes.
 #define _XOPEN_SOURCE 700
 
 #include "simulator.h"

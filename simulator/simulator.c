@@ -1,3 +1,4 @@
+// Start, the loop over wire, store, picture and keys, and the end.
 #define _XOPEN_SOURCE 700
 
 #include "simulator.h"

@@ -7,7 +7,7 @@
 // Exit statuses.
 enum { DONE = 0, FAILED = 1, MISUSED = 2 };
 
-// Functions that answer an int say 0 for done and -1 for a failure, which they have reported.
+// A function that can fail answers 0, or -1 after it has reported why.
 
 // options.c
 
@@ -65,7 +65,7 @@ int view_print(const Port *port, int blocks);
 
 // png.c
 
-// Whether a picture could be saved there: a PNG file, or a new one.
+// Fails where png_save would: also for a file that is there and is no PNG.
 int png_can_save(const char *path);
 int png_save(const char *path, const uint8_t *framebuffer);
 
@@ -77,7 +77,7 @@ int file_read(const char *path, uint8_t *bytes, size_t most, size_t *length);
 // The file has either its old or its new contents at any time.
 int file_save(const char *path, const uint8_t *bytes, size_t length);
 
-// Whether file_save could do its work.
+// Fails where file_save would, as far as that can be seen beforehand.
 int file_can_save(const char *path);
 
 // store_file.c

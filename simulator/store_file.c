@@ -1,3 +1,4 @@
+// The store, kept in a file across runs.
 #define _XOPEN_SOURCE 700
 
 #include "simulator.h"

@@ -1,3 +1,4 @@
+// The pseudo-terminal that clients open as a serial port.
 #define _XOPEN_SOURCE 700
 
 #include "simulator.h"

@@ -1,3 +1,4 @@
+// Pixels and settings as text.
 #include "simulator.h"
 
 #include <errno.h>
