@@ -1,6 +1,5 @@
 // A reference port driver: one display on one serial line, for a board to copy. C99 and C++11, no operating system.
 //
-//
 //     static Port port;
 //     void uart_interrupt(void) { port_receive(&port, UART_DATA); }
 //     ...
