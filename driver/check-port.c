@@ -128,9 +128,9 @@ static void check_bounded_round(void)
     striking = 60;
     RECEIVE('A');
     poll();
-    CHECK("calls of a round: arrival, take, empty take, feed", 1, answers[DISPLAY_QUEUE_EMPTY]);
-    CHECK("calls of a round", 60 - 4, striking);
-    CHECK("bytes for the next", 4, port_waiting(&port));
+    CHECK("no take for nothing", 0, answers[DISPLAY_QUEUE_EMPTY]);
+    CHECK("calls of a round: arrival, take, feed", 60 - 3, striking);
+    CHECK("bytes for the next", 3, port_waiting(&port));
     striking = 0;
     interrupt = NULL;
     drain();
@@ -191,14 +191,33 @@ static void check_fault(void (*damage)(void), size_t waiting, uint32_t answer, u
     CHECK("store", 0, memcmp(files, store, sizeof store) != 0);
 }
 
+// Damage is done while bytes wait in the queue for a host that does not read. It reads on, and the first take is the
+// last call.
+static void check_fault_at_take(void (*damage)(void))
+{
+    unsigned before;
+    fresh();
+    allowance = 0;
+    do {
+        RECEIVE(COMMAND, SERIAL_NUMBER, 'S', 'N');
+        CHECK("round before", DISPLAY_OK, poll());
+    } while (port_waiting(&port) == 0);
+    damage();
+    before = calls;
+    allowance = WIRE;
+    CHECK("fault", DISPLAY_BAD_RECORD, poll());
+    CHECK("answer kept", DISPLAY_BAD_RECORD, poll());
+    CHECK("last call", before + 1, calls);
+}
+
 static void check_faults(void)
 {
-    check_fault(damage_state, 0, DISPLAY_BAD_RECORD, 1); // seen by the first take
-    check_fault(damage_queue, 0, DISPLAY_BAD_RECORD, 1);
-    check_fault(damage_state, 3, DISPLAY_BAD_RECORD, 1); // by the first arrival
+    check_fault_at_take(damage_state);
+    check_fault_at_take(damage_queue);
+    check_fault(damage_state, 3, DISPLAY_BAD_RECORD, 1); // seen by the first arrival
     check_fault(damage_queue, 3, DISPLAY_BAD_RECORD, 1);
-    check_fault(damage_directory, 3, DISPLAY_BAD_DIRECTORY, 3 + 4 + 1); // by the feed after arrivals and takes
-    check_fault(damage_length, 3, DISPLAY_BAD_STORE_SIZE, 3 + 4 + 1);
+    check_fault(damage_directory, 3, DISPLAY_BAD_DIRECTORY, 3 + 3 + 1); // by the feed after arrivals and takes
+    check_fault(damage_length, 3, DISPLAY_BAD_STORE_SIZE, 3 + 3 + 1);
 }
 
 int main(void)

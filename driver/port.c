@@ -59,14 +59,15 @@ static uint32_t hand_in(Port *port)
     return DISPLAY_OK;
 }
 
-// A feed looks through all of the memory before it obeys its first byte, so it is given several.
+// A feed looks through all of the memory before it obeys its first byte, so it is given several. A take looks through the
+// records, so none is made for nothing.
 static uint32_t take_piece(Port *port)
 {
-    while (port->piece_length < PORT_PIECE_SIZE) {
+    while (port->queued > 0 && port->piece_length < PORT_PIECE_SIZE) {
         uint8_t byte, signal;
         uint32_t answer = display_take(RECORDS(port), &byte, &signal);
         if (answer != DISPLAY_OK)
-            return answer == DISPLAY_QUEUE_EMPTY ? DISPLAY_OK : answer;
+            return answer;
         port->queued--;
         port->piece[port->piece_length++] = byte;
         put_signal(port, signal);

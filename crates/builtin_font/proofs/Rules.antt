@@ -12,13 +12,13 @@ use borrow.Author.Tests.{eqb-true}
 use Rattle.fonts.specs.Checks.{within}
 use Rattle.fonts.specs.Bitmaps.{packedBytes}
 use Rattle.fonts.specs.Fonts.{nominalWidth, heightOf, firstOf, lastOf, offsetAt, widthAt, isEntry, areEntries, isFont}
-use Rattle.fonts.proofs.Laws.{font-taller}
+use Rattle.fonts.proofs.Laws.{and-left, and-right, font-taller}
 use Rattle.opened_font.specs.declared.Glyph.the-variants.{At}
 use Rattle.opened_font.specs.Glyphs.{glyphOf}
 use Rattle.opened_font.proofs.Laws.{glyph-there}
 use Rattle.builtin_font.specs.Table.{table}
 use Rattle.builtin_font.specs.Shapes.{fiveBytes, bitsAt, shapeAt, spareAt}
-use Rattle.builtin_font.proofs.Tests.{and-left, and-right, allBelow, below, absent, distinct, places}
+use Rattle.builtin_font.proofs.Tests.{allBelow, below, absent, distinct, places}
 
 pub table-length : length table ≡ 764
 unfolding table
