@@ -23,7 +23,8 @@ use Rattle.canvas.specs.declared.Rows.{Rows}
 use Rattle.canvas.specs.Canvas.{RowsAre}
 use Rattle.canvas.proofs.Lent.{lent-box}
 use Rattle.bitmap.specs.Inline.{PlaceIs}
-use Rattle.spans.specs.Bits.{packedBit, windowOf, bitsFrom, InCell}
+use Rattle.spans.specs.Bits.{packedBit, windowOf, bitsFrom, cellEnd}
+use Rattle.spans.proofs.Cells.{ends}
 use Rattle.bitmap.specs.Bitmaps.{packed, packedBox, rowBytes, inlineColumn, inlineRow, inlinePixels, inlineBits, inlineByte}
 
 -- ---- a row
@@ -37,14 +38,16 @@ module _ {x1 x2 y w : ℕ} {bits g₀ : List ℕ} where
   row-start b e = record { at-bit = omega arith; span-is = span-start b }
 
   -- the bits of a byte of the row, eight or fewer of them
-  pub row-step : {x k e b : ℕ} {g h : List ℕ} → RowOfBits x1 x2 y w x k bits g₀ g → InCell x e → e ≤ x2 → b ≡ windowOf bits k
-      → h ≡ put (span x e y) (bitsFrom x b) g → RowOfBits x1 x2 y w e (k + (e - x)) bits g₀ h
+  pub row-step : {x k e b : ℕ} {g h : List ℕ} → RowOfBits x1 x2 y w x k bits g₀ g → x < x2 → e ≡ cellEnd x x2 → b ≡ windowOf bits k
+      → h ≡ put (span x (cellEnd x x2) y) (bitsFrom x b) g → RowOfBits x1 x2 y w e (k + (e - x)) bits g₀ h
   unfolding packed bitsFrom windowOf
-  row-step {x} {k} {e} s c l eb d =
+  row-step {x} {k} {e} s l ee eb d =
+      let c = ends x x2 e ee in
+      let m : x < e = c .further l in
       record {
-        at-bit = omega (arith, s .at-bit, s .span-is .low, c .some);
-        span-is = span-run (bitsFrom x _) (s .span-is) (omega (arith, c .some)) l d (λ u p q. rw (eb, sub-zero)
-            (bit-byte (λ i. packedBit bits (k + i)) (u - x) (omega (arith, c .one)) ∙ (let z : k + (u - x) ≡ y * w + (u - x1) = omega (arith, s .at-bit, s .span-is .low) in rw z)));
+        at-bit = omega (arith, s .at-bit, s .span-is .low);
+        span-is = span-run (bitsFrom x _) (s .span-is) (omega arith) (c .least) (rw (← ee) at d) (λ u p q. rw (eb, sub-zero)
+            (bit-byte (λ i. packedBit bits (k + i)) (u - x) (omega (arith, c .byte)) ∙ (let z : k + (u - x) ≡ y * w + (u - x1) = omega (arith, s .at-bit, s .span-is .low) in rw z)));
       }
 
 -- ---- the rows

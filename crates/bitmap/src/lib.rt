@@ -14,14 +14,14 @@ ghost use Rattle.bitmap.specs.Bitmaps.{packed, packedBox, inlineByte};
 
 // Columns x1 up to, and not with, x2 of row y, from bit number `first` on.
 fn paint_row(rows: &mut [u8], x1: u16, x2: u16, y: u16, w: u8, first: usize, bits: &[u8])
-    requires { ⌜ (first ≡ y * w) × (first ≤ 255 * y) × (x2 ≤ 240) ⌝ }
+    requires { ⌜ (first ≡ y * w) × (first ≤ 255 * y) ⌝ }
     ensures { λ _. ⌜ now (rows .exit) ≡ put (span x1 x2 y) (packed x1 0 w (now (bits .entry))) (now (rows .entry)) ⌝ }
 {
     let mut x = x1;
     let mut k = first;
     while x < x2 {
         let end = cell_end(x, x2);
-        paint_cell(rows, x, end, y, window(bits, k));
+        paint_cell(rows, x, x2, y, window(bits, k));
         k += (end - x) as usize;
         x = end;
     }
@@ -29,7 +29,6 @@ fn paint_row(rows: &mut [u8], x1: u16, x2: u16, y: u16, w: u8, first: usize, bit
 
 // Columns x1 up to, and not with, x2 of the first n rows that are lent, each row w bits further on.
 fn paint_rows(rows: &mut [u8], x1: u16, x2: u16, n: u16, w: u8, bits: &[u8])
-    requires { ⌜ x2 ≤ 240 ⌝ }
     ensures { λ _. ⌜ now (rows .exit) ≡ put (box x1 x2 0 n) (packed x1 0 w (now (bits .entry))) (now (rows .entry)) ⌝ }
 {
     let mut y = 0;

@@ -17,10 +17,10 @@ use Rattle.pixels.proofs.Tests.{iff, and-one, and-two}
 use Rattle.pixels.proofs.Bits.{byte-is, bit-or, bit-and, bit-not, bit-run}
 use Rattle.pixels.proofs.Pictures.{Bytes}
 use Rattle.pixels.proofs.Painting.{put-same, put-off}
-use Rattle.pixels.proofs.Intervals.{within-true, within-yes}
+use Rattle.pixels.proofs.Intervals.{within-true, within-yes, within-before, within-iff, within-none}
 use Rattle.canvas.specs.Canvas.{masked}
 use Rattle.canvas.proofs.Strokes.{set-masked, masked-off}
-use Rattle.spans.specs.Bits.{blendedOf, cellBits, bitsFrom, InCell}
+use Rattle.spans.specs.Bits.{blendedOf, cellBits, bitsFrom, cellEnd}
 
 -- ---- a byte blended with another
 
@@ -50,8 +50,32 @@ blend-off g i m b h l = masked-off g i m (cellBits b) h l
 
 -- ---- the end of a byte
 
-pub end-in : (x x2 : ℕ) → x < x2 → x2 ≤ 240 → InCell x (min (8 * (x / 8) + 8) x2)
-end-in x x2 h k = record { some = omega arith; one = omega arith; inside = omega arith }
+pub end-before : (x x2 : ℕ) → x2 ≤ x → x2 ≡ cellEnd x x2
+unfolding cellEnd
+end-before x x2 h = omega arith
+
+pub end-first : (x x2 : ℕ) → x < x2 → x2 - x < 8 - x % 8 → x2 ≡ cellEnd x x2
+unfolding cellEnd
+end-first x x2 h l = omega arith
+
+pub end-of-byte : (x x2 : ℕ) → x < x2 → 8 - x % 8 ≤ x2 - x → x + (8 - x % 8) ≡ cellEnd x x2
+unfolding cellEnd
+end-of-byte x x2 h l = omega arith
+
+-- what is known of it
+pub record Ends (x x2 e : ℕ) : Type 0 where
+  pub byte : e ≤ 8 * (x / 8) + 8
+  pub least : e ≤ x2
+  pub further : x < x2 → x < e
+
+pub ends : (x x2 e : ℕ) → e ≡ cellEnd x x2 → Ends x x2 e
+unfolding cellEnd
+ends x x2 e h = record { byte = omega arith; least = omega arith; further = λ l. omega arith }
+
+-- columns that are in one byte end where they end
+pub end-within : (x x2 : ℕ) → x2 ≤ 8 * (x / 8) + 8 → cellEnd x x2 ≡ x2
+unfolding cellEnd
+end-within x x2 h = omega arith
 
 -- ---- the mask of columns s up to e of a byte
 
@@ -75,22 +99,22 @@ shifted-bit b s j h l = let t : s + (7 - j) ≡ 7 - (j - s) = omega arith in rw 
 
 -- ---- the columns painted
 
-module _ (g g′ : List ℕ) (x1 x2 y b i m s e : ℕ) (c : InCell x1 x2) (es : s ≡ x1 % 8) (ee : e ≡ x2 - (x1 - s)) (ei : i ≡ cell x1 y)
+module _ (g g′ : List ℕ) (x1 x2 y b i m s e : ℕ) (c-some : x1 < x2) (c-one : x2 ≤ 8 * (x1 / 8) + 8) (c-inside : x1 < 240) (es : s ≡ x1 % 8) (ee : e ≡ x2 - (x1 - s)) (ei : i ≡ cell x1 y)
     (em : m ≡ bitAnd (255 / 2 ^ s) (255 - 255 / 2 ^ e)) where
   bit : (u : ℕ) → bitOf m (u % 8) ≡ within s e (u % 8)
-  bit u = rw em (mask-bit s e (u % 8) (omega arith) (omega (arith, c .one)) (omega arith))
+  bit u = rw em (mask-bit s e (u % 8) (omega arith) (omega (arith, c-one)) (omega arith))
 
   there : (u v : ℕ) → On (length g) u v → masked i m u v ≡ true → span x1 x2 y u v ≡ true
   there u v on t =
       let q = eqb-true (cell u v) i (and-one (eqb (cell u v) i) (bitOf m (u % 8)) t) in
       let r = within-true s e (u % 8) (sym (bit u) ∙ and-two (eqb (cell u v) i) (bitOf m (u % 8)) t) in
-      rw (within-yes x1 x2 u (omega (arith, c .one, on .0, q)) (omega (arith, c .one, on .0, q)), eq-eqb v y (omega (arith, c .one, c .some, c .inside, on .0, q)))
+      rw (within-yes x1 x2 u (omega (arith, c-one, on .0, q)) (omega (arith, c-one, on .0, q)), eq-eqb v y (omega (arith, c-one, c-some, c-inside, on .0, q)))
 
   back : (u v : ℕ) → On (length g) u v → span x1 x2 y u v ≡ true → masked i m u v ≡ true
   back u v on t =
       let r = within-true x1 x2 u (and-one (within x1 x2 u) (eqb v y) t) in
       let q = eqb-true v y (and-two (within x1 x2 u) (eqb v y) t) in
-      rw (eq-eqb (cell u v) i (omega (arith, c .one, ei)), bit u, within-yes s e (u % 8) (omega (arith, c .one)) (omega (arith, c .one)))
+      rw (eq-eqb (cell u v) i (omega (arith, c-one, ei)), bit u, within-yes s e (u % 8) (omega (arith, c-one)) (omega (arith, c-one)))
 
   pub cell-painted : g′ ≡ put (masked i m) (cellBits (b / 2 ^ s)) g → g′ ≡ put (span x1 x2 y) (bitsFrom x1 b) g
   unfolding cellBits bitsFrom
@@ -98,5 +122,16 @@ module _ (g g′ : List ℕ) (x1 x2 y b i m s e : ℕ) (c : InCell x1 x2) (es : 
       q ∙ put-same (masked i m) (span x1 x2 y) (λ u v. bitOf (b / 2 ^ s) (u % 8)) (λ u v. bitOf b (u - x1)) g
       (λ u v on. iff (masked i m u v) (span x1 x2 y u v) (there u v on) (back u v on))
       (λ u v on t. let p = within-true x1 x2 u (and-one (within x1 x2 u) (eqb v y) t) in
-      let z : u % 8 - s ≡ u - x1 = omega (arith, c .one) in
-      shifted-bit b s (u % 8) (omega (arith, c .one)) (omega arith) ∙ rw z)
+      let z : u % 8 - s ≡ u - x1 = omega (arith, c-one) in
+      shifted-bit b s (u % 8) (omega (arith, c-one)) (omega arith) ∙ rw z)
+
+-- none of them, or none on the framebuffer
+pub cell-none : (g : List ℕ) (x e y b : ℕ) → Bytes g → e ≤ x → g ≡ put (span x e y) (bitsFrom x b) g
+cell-none g x e y b h l = put-off (span x e y) (bitsFrom x b) g h (λ u v on. rw (within-iff x e u 0 0 u (omega arith) (omega arith), within-none 0 u))
+
+pub cell-off : (g : List ℕ) (x e y b : ℕ) → Bytes g → 240 ≤ x → g ≡ put (span x e y) (bitsFrom x b) g
+cell-off g x e y b h l = put-off (span x e y) (bitsFrom x b) g h (λ u v on. rw (within-before x e u (omega (arith, on .0))))
+
+-- up to the end of the byte
+pub part-painted : (x x2 e y b : ℕ) (g g′ : List ℕ) → e ≡ cellEnd x x2 → g′ ≡ put (span x e y) (bitsFrom x b) g → g′ ≡ put (span x (cellEnd x x2) y) (bitsFrom x b) g
+part-painted x x2 e y b g g′ ee q = q ∙ ap (λ (n : ℕ). put (span x n y) (bitsFrom x b) g) ee

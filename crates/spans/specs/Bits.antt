@@ -2,7 +2,7 @@
 -- Assumes nothing.
 use mathlib.Core.Bool.{Bool, cond}
 use mathlib.Core.List.{List}
-use Prim.Native.Nat.{ℕ, _+_, _-_, _*_, _/_, _%_, _<_, _≤_}
+use Prim.Native.Nat.{ℕ, _+_, _-_, _*_, _/_, _%_, min}
 use lib.ListN.{getD}
 use Rattle.pixels.specs.Framebuffer.{Picture, bitOf, byteOf}
 
@@ -26,8 +26,6 @@ cellBits b u v = bitOf b (u % 8)
 unfoldable pub bitsFrom : ℕ → ℕ → Picture
 bitsFrom x b u v = bitOf b (u - x)
 
--- columns x1 up to x2, one at least, are those of one byte of a row
-pub record InCell (x1 x2 : ℕ) : Type 0 where
-  pub some : x1 < x2
-  pub one : x2 ≤ 8 * (x1 / 8) + 8
-  pub inside : x2 ≤ 240
+-- the column behind the byte of column x, or x2 if that comes first
+unfoldable pub cellEnd : ℕ → ℕ → ℕ
+cellEnd x x2 = min (8 * (x / 8) + 8) x2

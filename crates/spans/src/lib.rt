@@ -1,13 +1,13 @@
 // Columns of a row painted a byte at a time, from bits that lie anywhere in a list of bytes.
+use canvas::WIDTH;
 use canvas::cell;
-use canvas::least;
 ghost use mathlib.Core.Path.{_≡_};
-ghost use Prim.Native.Nat.{_+_, _*_, _/_, _<_, _≤_, min};
+ghost use Prim.Native.Nat.{_+_, _*_, _/_, _<_, _≤_};
 ghost use lib.ListN.{getD};
 ghost use Rattle.pixels.specs.Framebuffer.{put};
 ghost use Rattle.pixels.specs.Regions.{span};
 ghost use Rattle.canvas.specs.Canvas.{masked};
-ghost use Rattle.spans.specs.Bits.{windowOf, blendedOf, cellBits, bitsFrom, InCell};
+ghost use Rattle.spans.specs.Bits.{windowOf, blendedOf, cellBits, bitsFrom, cellEnd};
 
 fn word(x: u8) -> u16
     ensures { λ r. ⌜ (r ≡ x) × (r < 256) ⌝ }
@@ -46,22 +46,37 @@ fn blend(fb: &mut [u8], at: usize, mask: u8, byte: u8)
     }
 }
 
-// The column behind the byte of column x, or x2 before it.
+// The column behind the byte of column x, or x2 if that comes first.
 pub fn cell_end(x: u16, x2: u16) -> u16
-    requires { ⌜ (x < x2) × (x2 ≤ 240) ⌝ }
-    ensures { λ r. ⌜ (r ≡ min (8 * (x / 8) + 8) x2) × InCell x r ⌝ }
+    ensures { λ r. ⌜ r ≡ cellEnd x x2 ⌝ }
 {
-    least(8 * (x / 8) + 8, x2)
+    if x2 <= x {
+        return x2;
+    }
+    let left = 8 - x % 8;
+    if x2 - x < left { x2 } else { x + left }
 }
 
-// Columns x1 up to, and not with, x2 of row y, all of one byte, from the highest of eight bits on.
-pub fn paint_cell(fb: &mut [u8], x1: u16, x2: u16, y: u16, bits: u8)
-    requires { ⌜ InCell x1 x2 ⌝ }
-    ensures { λ _. ⌜ now (fb .exit) ≡ put (span x1 x2 y) (bitsFrom x1 bits) (now (fb .entry)) ⌝ }
+// Columns x up to, and not with, `end` of row y, all of one byte, from the highest of eight bits on.
+fn paint_part(fb: &mut [u8], x: u16, end: u16, y: u16, bits: u8)
+    requires { ⌜ (x < end) × (end ≤ 8 * (x / 8) + 8) × (x < 240) ⌝ }
+    ensures { λ _. ⌜ now (fb .exit) ≡ put (span x end y) (bitsFrom x bits) (now (fb .entry)) ⌝ }
 {
-    let start = x1 % 8;
-    let end = x2 - (x1 - start);
-    let right = (255u16 >> end) as u8;
+    let start = x % 8;
+    let stop = end - (x - start);
+    let right = (255u16 >> stop) as u8;
     let mask = (255u8 >> start) & !right;
-    blend(fb, cell(x1, y), mask, bits >> start);
+    blend(fb, cell(x, y), mask, bits >> start);
+}
+
+// Columns x up to, and not with, x2 of row y, as far as they are in the byte of column x, from the highest of eight bits on.
+pub fn paint_cell(fb: &mut [u8], x: u16, x2: u16, y: u16, bits: u8)
+    ensures { λ _. ⌜ now (fb .exit) ≡ put (span x (cellEnd x x2) y) (bitsFrom x bits) (now (fb .entry)) ⌝ }
+{
+    let end = cell_end(x, x2);
+    if x < end {
+        if x < WIDTH {
+            paint_part(fb, x, end, y, bits);
+        }
+    }
 }

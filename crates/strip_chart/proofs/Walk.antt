@@ -25,7 +25,8 @@ use Rattle.canvas.specs.declared.Rows.{Rows}
 use Rattle.canvas.specs.Canvas.{RowsAre}
 use Rattle.canvas.proofs.Lent.{lent-whole}
 use Rattle.canvas.proofs.Strokes.{black-right}
-use Rattle.spans.specs.Bits.{packedBit, windowOf, bitsFrom, InCell}
+use Rattle.spans.specs.Bits.{packedBit, windowOf, bitsFrom, cellEnd}
+use Rattle.spans.proofs.Cells.{end-within}
 use Rattle.strip_chart.specs.declared.Part.{Part}
 use Rattle.strip_chart.specs.Strips.{entering, source, shifted, shiftedStrip}
 use Rattle.strip_chart.specs.Walk.{leaving, partOf, beyond, shiftedRow, shiftedRows}
@@ -56,7 +57,7 @@ abbrev pub apart : ℕ → ℕ → ℕ
 apart x end = (x - end) + (end - x)
 
 pub record PartIs (right : Bool) (x1 x2 x : ℕ) (p : Part) : Type 0 where
-  pub cell : InCell (p .from) (p .to)
+  pub byte : p .to ≤ 8 * (p .from / 8) + 8
   pub asks : (p .from < 65535) × (right ≡ true → 0 < p .from)
   -- the next column is nearer
   pub low : x1 ≤ beyond right p
@@ -80,7 +81,7 @@ unfolding partOf beyond entering source passed
 part-is true x1 x2 x h k l n =
     let m : x1 < x = omega arith in
     record {
-      cell = record { some = omega arith; one = omega arith; inside = omega arith };
+      byte = omega arith;
       asks = (omega arith, λ e. omega arith);
       low = omega arith;
       high = omega arith;
@@ -95,7 +96,7 @@ part-is true x1 x2 x h k l n =
 part-is false x1 x2 x h k l n =
     let m : x < x2 = omega arith in
     record {
-      cell = record { some = omega arith; one = omega arith; inside = omega arith };
+      byte = omega arith;
       asks = (omega arith, λ e. absurd (false≢true e));
       low = omega arith;
       high = omega arith;
@@ -147,14 +148,14 @@ module _ {right : Bool} {x1 x2 y : ℕ} {g₀ : List ℕ} where
 
     -- one part more
     pub shift-step : {k b n : ℕ} {p : Part} {h : List ℕ} → PartIs right x1 x2 x p → n ≡ beyond right p → k ≡ source right (p .from) → b ≡ windowOf g (240 * y + k)
-        → h ≡ put (span (p .from) (p .to) y) (bitsFrom (p .from) b) g → Shifting right x1 x2 y n g₀ h
+        → h ≡ put (span (p .from) (cellEnd (p .from) (p .to)) y) (bitsFrom (p .from) b) g → Shifting right x1 x2 y n g₀ h
     unfolding shifted bitsFrom windowOf
     shift-step {k} {b} {n} {p} {h} t en ek eb e = rw en (record { low = t .low; high = t .high; long = ap length all ∙ length-repaint _ g₀; shows = all })
       where
         read : (u : ℕ) → p .from ≤ u → u < p .to → bitOf b (u - p .from) ≡ shifted right x1 x2 g₀ u y
         read u a c =
             rw (eb, ne-eqb u (entering right x1 x2) (t .other u a c))
-            (bit-byte (λ i. packedBit g (240 * y + k + i)) (u - p .from) (omega (arith, t .cell .one))
+            (bit-byte (λ i. packedBit g (240 * y + k + i)) (u - p .from) (omega (arith, t .byte))
             ∙ (let z : 240 * y + k + (u - p .from) ≡ 240 * y + source right u = omega (arith, ek, t .onward u a c .0) in rw z)
             ∙ packed-row g (source right u) y (t .onward u a c .1)
             ∙ rw (s .shows) (black-outside (outside-put (λ u v. passed right x1 x2 x u && eqb v y) (shifted right x1 x2 g₀) g₀) (source right u) y
@@ -162,7 +163,7 @@ module _ {right : Bool} {x1 x2 y : ℕ} {g₀ : List ℕ} where
 
         all : h ≡ put (λ u v. passed right x1 x2 (beyond right p) u && eqb v y) (shifted right x1 x2 g₀) g₀
         all =
-            e ∙ put-same (span (p .from) (p .to) y) (span (p .from) (p .to) y) (bitsFrom (p .from) b) (shifted right x1 x2 g₀) g (λ u v on. refl)
+            (rw (end-within (p .from) (p .to) (t .byte)) at e) ∙ put-same (span (p .from) (p .to) y) (span (p .from) (p .to) y) (bitsFrom (p .from) b) (shifted right x1 x2 g₀) g (λ u v on. refl)
             (λ u v on q. let c = within-true (p .from) (p .to) u (and-one (within (p .from) (p .to) u) (eqb v y) q) in
             rw (eqb-true v y (and-two (within (p .from) (p .to) u) (eqb v y) q)) (read u (c .0) (c .1)))
             ∙ ap (put (span (p .from) (p .to) y) (shifted right x1 x2 g₀)) (s .shows)

@@ -1,6 +1,7 @@
 use native.Mathlib.Omega.{arith}
 use Rattle.pixels.proofs.Growth.{span-end}
 use borrow.Author.Needs.{needs}
+use Rattle.spans.proofs.Cells.{ends}
 use Prim.Native.Nat.{_-_}
 use Rattle.bitmap.proofs.Bits.{RowOfBits, row-start, row-step}
 use Rattle.bitmap.proofs.paint_row.Statement.{statement}
@@ -22,10 +23,10 @@ window-requires : tie.Need-window-requires Inv-loop μ-loop
 window-requires c κs = search needs
 
 paint-cell-requires : tie.Need-paint-cell-requires Inv-loop μ-loop
-paint-cell-requires c κs = c .before .before .cell-end .ensures .1
+paint-cell-requires c κs = search needs
 
 sub-k : tie.Need-sub-k Inv-loop μ-loop
-sub-k c = omega (arith, c .before .before .before .before .before .cell-end .ensures .1 .some)
+sub-k c = omega (arith, ends _ _ _ (c .before .before .before .before .before .cell-end .ensures) .further (search needs))
 
 cast-k : tie.Need-cast-k Inv-loop μ-loop
 cast-k c = search needs
@@ -34,10 +35,10 @@ add-k : tie.Need-add-k Inv-loop μ-loop
 add-k c = search needs
 
 loop-less : tie.Need-loop-less Inv-loop μ-loop
-loop-less c = omega (arith, c .before .before .before .before .before .cell-end .ensures .1 .some)
+loop-less c = let e = ends _ _ _ (c .before .before .before .before .before .cell-end .ensures) in omega (arith, e .least, e .further (search needs))
 
 loop-again : tie.Need-loop-again Inv-loop μ-loop
-loop-again c = row-step (c .before .before .before .before .before .before .before .loop .inv) (c .before .before .before .before .before .cell-end .ensures .1) (search needs) (c .before .before .before .window .ensures) (c .before .before .paint-cell .ensures)
+loop-again c = row-step (c .before .before .before .before .before .before .before .loop .inv) (search needs) (c .before .before .before .before .before .cell-end .ensures) (c .before .before .before .window .ensures) (c .before .before .paint-cell .ensures)
 
 same-length : tie.Need-same-length Inv-loop μ-loop
 same-length c = search needs

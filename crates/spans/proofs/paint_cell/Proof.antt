@@ -1,62 +1,35 @@
 -- `spans::paint_cell` meets its contract.
 -- Assumes nothing.
-use mathlib.Core.Path.{refl}
-use Rattle.spans.proofs.Cells.{right-lt, cell-painted}
+use Rattle.spans.proofs.Cells.{ends, part-painted, cell-none, cell-off}
 use borrow.Author.Needs.{needs}
 use Rattle.spans.proofs.paint_cell.Statement.{statement}
 use Rattle.spans.proofs.paint_cell.Tie as tie
 
-sub-end : tie.Need-sub-end
-sub-end c = search needs
+cell-end-requires : tie.Need-cell-end-requires
+cell-end-requires c κs = search needs
 
-sub-end-2 : tie.Need-sub-end-2
-sub-end-2 c = search needs
-
-shr-right : tie.Need-shr-right
-shr-right c = search needs
-
-cast-right : tie.Need-cast-right
-cast-right c = record { fits = right-lt _ }
-
-cast-mask : tie.Need-cast-mask
-cast-mask c = search needs
-
-shr-mask : tie.Need-shr-mask
-shr-mask c = search needs
-
-cell-requires : tie.Need-cell-requires
-cell-requires c κs = search needs
-
-cast-blend : tie.Need-cast-blend
-cast-blend c = search needs
-
-shr-blend : tie.Need-shr-blend
-shr-blend c = search needs
-
-blend-requires : tie.Need-blend-requires
-blend-requires c κs = search needs
+paint-part-requires : tie.Need-paint-part-requires
+paint-part-requires c κs =
+    let a = c .before .before .before .before .before .args in
+    (search needs, ends (a .x) (a .x2) (c .before .before .before .cell-end .result) (c .before .before .before .cell-end .ensures) .byte, search needs)
 
 same-length : tie.Need-same-length
 same-length c = search needs
 
 returns : tie.Need-returns
 returns c =
-    let a = c .before .before .before .before .before .before .args in
-    cell-painted (a .fb .now) _ (a .x1) (a .x2) (a .y) (a .bits) (c .before .before .before .cell .result) _ _ _ (search needs) refl refl (c .before .before .before .cell .ensures) refl (c .before .before .blend .ensures)
+    let a = c .before .before .before .before .before .before .before .before .args in
+    part-painted (a .x) (a .x2) (c .before .before .before .before .before .before .cell-end .result) (a .y) (a .bits) (a .fb .now) _ (c .before .before .before .before .before .before .cell-end .ensures) (c .before .before .paint-part .ensures)
+
+returns-2 : tie.Need-returns-2
+returns-2 c = let a = c .before .before .before .before .args in cell-off (a .fb .now) (a .x) _ (a .y) (a .bits) (λ i. c .before .before .before .slice-known .given i .fits) (search needs)
+
+returns-3 : tie.Need-returns-3
+returns-3 c =
+    let a = c .before .before .before .args in
+    part-painted (a .x) (a .x2) (c .before .cell-end .result) (a .y) (a .bits) (a .fb .now) _ (c .before .cell-end .ensures) (cell-none (a .fb .now) (a .x) (c .before .cell-end .result) (a .y) (a .bits) (λ i. c .before .before .slice-known .given i .fits) (search needs))
 
 pub paint-cell-spec : {M : Type 1} → statement M
 paint-cell-spec =
     tie.close
-    (tie.spec
-    sub-end
-    sub-end-2
-    shr-right
-    cast-right
-    cast-mask
-    shr-mask
-    cell-requires
-    cast-blend
-    shr-blend
-    blend-requires
-    same-length
-    returns)
+    (tie.spec cell-end-requires paint-part-requires same-length returns returns-2 returns-3)

@@ -40,7 +40,7 @@ window-requires : tie.Need-window-requires Inv-loop μ-loop
 window-requires c κs = search needs
 
 paint-cell-requires : tie.Need-paint-cell-requires Inv-loop μ-loop
-paint-cell-requires c κs = shift-part (c .before .before .before .before .before .before .loop .inv) (c .before .before .before .before .before .before .before .before .entering .ensures) (search needs) (search needs) (c .before .before .before .before .part-of .ensures) .cell
+paint-cell-requires c κs = search needs
 
 beyond-requires : tie.Need-beyond-requires Inv-loop μ-loop
 beyond-requires c κs = shift-part (c .before .before .before .before .before .before .before .before .before .loop .inv) (c .before .before .before .before .before .before .before .before .before .before .before .entering .ensures) (search needs) (search needs) (c .before .before .before .before .before .before .before .part-of .ensures) .asks .1
