@@ -2,12 +2,12 @@
 -- Assumes nothing.
 use mathlib.Core.Path.{_≡_, refl}
 use mathlib.Core.List.{List}
-use mathlib.Core.Bool.{Bool, true, false, cond, _&&_}
+use mathlib.Core.Bool.{Bool, true, false, _&&_}
 use Prim.Native.Nat.{ℕ, zero, suc, _+_, _-_, _*_, _≤_, _<_}
 use native.Mathlib.Omega.{arith}
 use lib.Dec.{ltb, leb, eqb}
 use lib.ListN.{length, drop, length-drop}
-use borrow.Author.Tests.{le-leb, lt-leb, leb-true, ltb-true, eqb-true}
+use borrow.Author.Tests.{le-leb, leb-true, ltb-true, eqb-true}
 use Rattle.fonts.specs.declared.Check.{Check}
 use Rattle.fonts.specs.declared.Check.the-variants.{Good, Malformed}
 use Rattle.fonts.specs.Checks.{within, checkOf}

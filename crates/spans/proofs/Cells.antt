@@ -3,15 +3,15 @@
 use mathlib.Core.Path.{_≡_, refl, sym, ap, _∙_}
 use mathlib.Core.Bool.{Bool, true, false, cond, not, _&&_, _||_}
 use mathlib.Core.List.{List}
-use Prim.Native.Nat.{ℕ, _+_, _-_, _*_, _/_, _%_, _^_, _<_, _≤_, min}
+use Prim.Native.Nat.{ℕ, _+_, _-_, _*_, _/_, _%_, _^_, _<_, _≤_}
 use native.Mathlib.Omega.{arith}
-use native.Mathlib.Decide.{decLt, ℕ-discrete}
+use native.Mathlib.Decide.{decLt}
 use lib.Dec.{eqb, leb, ltb}
 use lib.Bits.{bitAnd, bitOr, and-le-l, or-lt}
 use lib.ListN.{length, getD, set}
 use lib.Pow.{shr-shr, shr-le}
 use borrow.Author.Tests.{eq-eqb, eqb-true, lt-ltb, le-ltb, le-leb, lt-leb}
-use Rattle.pixels.specs.Framebuffer.{On, cell, bitOf, byteOf, put}
+use Rattle.pixels.specs.Framebuffer.{On, cell, bitOf, put}
 use Rattle.pixels.specs.Regions.{within, span}
 use Rattle.pixels.proofs.Tests.{iff, and-one, and-two}
 use Rattle.pixels.proofs.Bits.{byte-is, bit-or, bit-and, bit-not, bit-run}

@@ -1,14 +1,13 @@
 -- Eight bits cut out of two bytes.
 -- Assumes nothing.
-use mathlib.Core.Path.{_≡_, refl, sym, ap, _∙_}
+use mathlib.Core.Path.{_≡_, sym, _∙_}
 use mathlib.Core.List.{List}
 use Prim.Native.Nat.{ℕ, zero, suc, _+_, _-_, _*_, _/_, _%_, _^_, _<_, _≤_}
 use native.Mathlib.Omega.{arith}
 use native.Mathlib.Decide.{decLt}
-use lib.Dec.{eqb}
 use lib.ListN.{length, getD, List·getD-eq-default}
 use lib.Pow.{shr-shr}
-use Rattle.pixels.specs.Framebuffer.{bitOf, byteOf}
+use Rattle.pixels.specs.Framebuffer.{bitOf}
 use Rattle.pixels.proofs.Bits.{byte-is}
 use Rattle.spans.specs.Bits.{packedBit, windowOf}
 
