@@ -106,18 +106,25 @@ fn interval_of(far: bool, lo: u8, hi: u8, a: u8, e: u8) -> Interval
 }
 
 // The rows or columns of a bar from depth a up to depth e, in the colour c.
-fn fill_stripe(fb: &mut [u8], bar: Bar, a: u8, e: u8, c: Colour)
-    ensures { λ _. ⌜ now (fb .exit) ≡ fill (stripe bar a e) (c .black) (now (fb .entry)) ⌝ }
+fn fill_stripe(framebuffer: &mut [u8], bar: Bar, a: u8, e: u8, c: Colour)
+    ensures { λ _. ⌜ now (framebuffer .exit) ≡ fill (stripe bar a e) (c .black) (now (framebuffer .entry)) ⌝ }
 {
     let far = is_from_far(bar.kind);
     if is_vertical(bar.kind) {
         let rows = interval_of(far, bar.y1, bar.y2, a, e);
-        fill_box(fb, wide(bar.x1), wide(bar.x2) + 1, rows.from, rows.to, c);
+        fill_box(
+            framebuffer,
+            wide(bar.x1),
+            wide(bar.x2) + 1,
+            rows.from,
+            rows.to,
+            c,
+        );
         return;
     }
     let columns = interval_of(far, bar.x1, bar.x2, a, e);
     fill_box(
-        fb,
+        framebuffer,
         columns.from,
         columns.to,
         wide(bar.y1),
@@ -127,21 +134,21 @@ fn fill_stripe(fb: &mut [u8], bar: Bar, a: u8, e: u8, c: Colour)
 }
 
 // 0 whitens all; another value paints only what differs from the old one. The answer keeps the value.
-pub fn write_bar(fb: &mut [u8], bar: Bar, value: u8) -> Bar
-    ensures { λ r. ⌜ (r ≡ writtenBar bar value) × (now (fb .exit) ≡ writeOf bar value (now (fb .entry))) ⌝ }
+pub fn write_bar(framebuffer: &mut [u8], bar: Bar, value: u8) -> Bar
+    ensures { λ r. ⌜ (r ≡ writtenBar bar value) × (now (framebuffer .exit) ≡ writeOf bar value (now (framebuffer .entry))) ⌝ }
 {
     let old = bar.value;
     let new = held(bar, value);
     let mut written = bar;
     written.value = new;
     if value == 0 {
-        fill_rectangle(fb, bar.x1, bar.y1, bar.x2, bar.y2, Colour::WHITE);
+        fill_rectangle(framebuffer, bar.x1, bar.y1, bar.x2, bar.y2, Colour::WHITE);
         return written;
     }
     if old < new {
-        fill_stripe(fb, bar, old, new, Colour::BLACK);
+        fill_stripe(framebuffer, bar, old, new, Colour::BLACK);
         return written;
     }
-    fill_stripe(fb, bar, new, old, Colour::WHITE);
+    fill_stripe(framebuffer, bar, new, old, Colour::WHITE);
     written
 }

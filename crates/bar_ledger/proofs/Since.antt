@@ -65,7 +65,7 @@ module _ {C A : Type 0} (view : C → View) (step : C → A → C) (event : C �
   -- shows the full picture of its type, corners and last value
   pub since-zero : (c : C) (l : List A) (a : A) (r : List A) (i : ℕ) → Agrees view step event c (l ++ (a ∷ r)) → event (along step c l) a ≡ wrote i 0
       → LeavesAll step event (step (along step c l) a) (recorded (event (along step c l) a) (ledgerAlong step event (opened (view c)) c l)) r i
-      → Shows (view (along step c (l ++ (a ∷ r))) .bar i) (view (along step c (l ++ (a ∷ r))) .bar i .value) (view (along step c (l ++ (a ∷ r))) .screen)
+      → Shows (view (along step c (l ++ (a ∷ r))) .bar i) (view (along step c (l ++ (a ∷ r))) .bar i .value) (view (along step c (l ++ (a ∷ r))) .framebuffer)
   since-zero c l a r i g e h =
       rw (← rw (take-length (l ++ (a ∷ r))) at (g .same (length (l ++ (a ∷ r))) i))
       ((rw (take-length (l ++ (a ∷ r))) at (g .shown (length (l ++ (a ∷ r))))) .bars i (known-since step event c (opened (view c)) l a r i e h))

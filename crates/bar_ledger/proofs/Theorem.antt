@@ -17,7 +17,7 @@ thrifty-obeys : (e : Event) (k : Ledger) (v w : View) → Obeys e v w → Holds 
 thrifty-obeys e k v w o h =
     record {
       pixels = λ n a x y q z on d. let p : Paints (wrote n a) v w = rw q at (o .paints) in
-          rw (h n .same) (write-changes (v .bar n) a (v .screen) x y z on (rw p at d));
+          rw (h n .same) (write-changes (v .bar n) a (v .framebuffer) x y z on (rw p at d));
     }
 
 opened-holds : (v : View) → Holds v (opened v)

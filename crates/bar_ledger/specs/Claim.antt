@@ -13,11 +13,11 @@ use Rattle.bar_ledger.specs.Ledger.{View, Event, wrote, Ledger, opened, 
 
 -- the rectangle of each known bar shows the full picture of its value
 pub record Shown (v : View) (k : Ledger) : Type 0 where
-  pub bars : (i : ℕ) → k i .known ≡ true → Shows (k i .bar) (k i .bar .value) (v .screen)
+  pub bars : (i : ℕ) → k i .known ≡ true → Shows (k i .bar) (k i .bar .value) (v .framebuffer)
 
 -- a write of another value than 0, to any bar, changes only pixels in which the full pictures of old and new value differ
 pub record Thrifty (e : Event) (k : Ledger) (v w : View) : Type 0 where
-  pub pixels : (n a x y : ℕ) → e ≡ wrote n a → a ≢ 0 → On (length (v .screen)) x y → pixel (w .screen) x y ≢ pixel (v .screen) x y
+  pub pixels : (n a x y : ℕ) → e ≡ wrote n a → a ≢ 0 → On (length (v .framebuffer)) x y → pixel (w .framebuffer) x y ≢ pixel (v .framebuffer) x y
       → fullPicture (k n .bar) (k n .bar .value) x y ≢ fullPicture (k n .bar) (heldTo (k n .bar) a) x y
 
 module _ {C A : Type 0} (view : C → View) (step : C → A → C) (event : C → A → Event) where
@@ -35,4 +35,4 @@ module _ {C A : Type 0} (view : C → View) (step : C → A → C) (event : C �
     pub thrifty : (n : ℕ) (a : A) (r : List A) → drop n l ≡ a ∷ r
         → Thrifty (event (machineAt c l n) a) (ledgerAt c l n) (view (machineAt c l n)) (view (step (machineAt c l n) a))
     pub inside : (n : ℕ) (a : A) (r : List A) → drop n l ≡ a ∷ r
-        → SameOutside (footprint (event (machineAt c l n) a) (view (machineAt c l n))) (view (machineAt c l n) .screen) (view (step (machineAt c l n) a) .screen)
+        → SameOutside (footprint (event (machineAt c l n) a) (view (machineAt c l n))) (view (machineAt c l n) .framebuffer) (view (step (machineAt c l n) a) .framebuffer)

@@ -9,9 +9,9 @@ use Rattle.pixels.specs.Regions.{touches}
 use Rattle.bar_graph.specs.declared.Bar.{Bar}
 use Rattle.bar_graph.specs.Bars.{rectangleOf, writtenBar}
 
--- what is seen of a machine: its screen, and bar number i
+-- what is seen of a machine: its framebuffer, and bar number i
 pub record View : Type 0 where
-  pub screen : List ℕ
+  pub framebuffer : List ℕ
   pub bar : ℕ → Bar
 
 -- what an input means for the bars

@@ -41,23 +41,23 @@ fn paint_rows(rows: &mut [u8], x1: u16, x2: u16, n: u16, w: u8, bits: &[u8])
 }
 
 // Columns x1 up to, and not with, x2 of rows y1 up to, and not with, y2 of a bitmap of rows of w bits: only those rows are lent on.
-fn paint_bits(fb: &mut [u8], x1: u16, x2: u16, y1: u16, y2: u16, w: u8, bits: &[u8])
-    ensures { λ _. ⌜ now (fb .exit) ≡ put (box x1 x2 y1 y2) (packed x1 y1 w (now (bits .entry))) (now (fb .entry)) ⌝ }
+fn paint_bits(framebuffer: &mut [u8], x1: u16, x2: u16, y1: u16, y2: u16, w: u8, bits: &[u8])
+    ensures { λ _. ⌜ now (framebuffer .exit) ≡ put (box x1 x2 y1 y2) (packed x1 y1 w (now (bits .entry))) (now (framebuffer .entry)) ⌝ }
 {
-    let rows = rows_between(fb.len(), y1, y2);
+    let rows = rows_between(framebuffer.len(), y1, y2);
     let from = rows.from;
     let to = rows.to;
     let right = least(x2, WIDTH);
-    paint_rows(&mut fb[from..to], x1, right, rows.count, w, bits);
+    paint_rows(&mut framebuffer[from..to], x1, right, rows.count, w, bits);
 }
 
 // A glyph or a saved bitmap of w by h bits, its upper left corner at (x, y).
-pub fn paint_packed(fb: &mut [u8], x: u16, y: u8, w: u8, h: u8, bits: &[u8])
-    ensures { λ _. ⌜ now (fb .exit) ≡ packedBox x y w h (now (bits .entry)) (now (fb .entry)) ⌝ }
+pub fn paint_packed(framebuffer: &mut [u8], x: u16, y: u8, w: u8, h: u8, bits: &[u8])
+    ensures { λ _. ⌜ now (framebuffer .exit) ≡ packedBox x y w h (now (bits .entry)) (now (framebuffer .entry)) ⌝ }
 {
     if x < WIDTH {
         let top = y as u16;
-        paint_bits(fb, x, x + w as u16, top, top + h as u16, w, bits);
+        paint_bits(framebuffer, x, x + w as u16, top, top + h as u16, w, bits);
     }
 }
 
@@ -81,8 +81,8 @@ fn inline_place(x1: u8, y1: u8, x2: u8, k: u16) -> Place
 }
 
 // Byte number k of data in line for the rectangle of two corners.
-pub fn paint_inline(fb: &mut [u8], x1: u8, y1: u8, x2: u8, y2: u8, k: u16, byte: u8)
-    ensures { λ _. ⌜ now (fb .exit) ≡ inlineByte x1 y1 x2 y2 k byte (now (fb .entry)) ⌝ }
+pub fn paint_inline(framebuffer: &mut [u8], x1: u8, y1: u8, x2: u8, y2: u8, k: u16, byte: u8)
+    ensures { λ _. ⌜ now (framebuffer .exit) ≡ inlineByte x1 y1 x2 y2 k byte (now (framebuffer .entry)) ⌝ }
 {
     if x1 <= x2 {
         let place = inline_place(x1, y1, x2, k);
@@ -91,7 +91,7 @@ pub fn paint_inline(fb: &mut [u8], x1: u8, y1: u8, x2: u8, y2: u8, k: u16, byte:
             let y = place.y as u16;
             let end = least(x + 8, x2 as u16 + 1);
             let bits = [byte];
-            paint_bits(fb, x, end, y, y + 1, 8, &bits);
+            paint_bits(framebuffer, x, end, y, y + 1, 8, &bits);
         }
     }
 }

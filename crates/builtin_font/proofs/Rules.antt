@@ -9,7 +9,7 @@ use lib.Dec.{eqb}
 use lib.ListN.{length, getD, drop, List·getD-eq-default}
 use lib.Seq.{drop-drop}
 use borrow.Author.Tests.{eqb-true}
-use Rattle.fonts.specs.Checks.{within}
+use Rattle.fonts.specs.Checks.{between}
 use Rattle.fonts.specs.Bitmaps.{packedBytes}
 use Rattle.fonts.specs.Fonts.{nominalWidth, heightOf, firstOf, lastOf, offsetAt, widthAt, isEntry, areEntries, isFont}
 use Rattle.fonts.proofs.Laws.{and-left, and-right, font-taller}
@@ -52,7 +52,7 @@ five = refl
 -- ---- the same check as any other font
 
 pub font-7 : isFont 7 table ≡ true
-unfolding table isFont areEntries isEntry offsetAt widthAt packedBytes within
+unfolding table isFont areEntries isEntry offsetAt widthAt packedBytes between
 font-7 = refl
 
 pub font : (m : ℕ) → 7 ≤ m → isFont m table ≡ true

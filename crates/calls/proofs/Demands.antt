@@ -28,7 +28,7 @@ use Rattle.record.proofs.Bytes.{decoded-fits}
 use Rattle.record.proofs.Same.{both}
 use Rattle.record.proofs.Round.{decode-encode, encode-decode, encoded-sound, passed}
 use Rattle.rules.specs.World.{World, world, port}
-use Rattle.rules.specs.Files.{inUse, noRoom}
+use Rattle.rules.specs.Files.{inUse, lacksSpace}
 use Rattle.rules.specs.Step.{step}
 use Rattle.rules.specs.Calls.{run, said}
 use Rattle.rules.specs.Events.{view, event}
@@ -38,8 +38,8 @@ use Rattle.rules.specs.Sound.{Bytes, Welcome, Good}
 use Rattle.rules.proofs.ByByte.{demand-3}
 use Rattle.rules.proofs.Replies.{said-fits}
 use Rattle.rules.proofs.Counts.{refusal-count, last-refusal}
-use Rattle.rules.proofs.GoodByte.{good-step, good-start, screen-length, store-length}
-use Rattle.calls.specs.Memory.{screenBytes, Memory, storeFits, uploadRefused, checked, loaded, saved, Kept}
+use Rattle.rules.proofs.GoodByte.{good-step, good-start, framebuffer-length, store-length}
+use Rattle.calls.specs.Memory.{framebufferBytes, Memory, storeFits, uploadRefused, checked, loaded, saved, Kept}
 use Rattle.calls.specs.Feed.{Fed, fed, feedOf}
 use Rattle.calls.specs.Line.{bothSound}
 use Rattle.calls.specs.Start.{emptied, startChecked, startOf}
@@ -54,7 +54,7 @@ pub kept-step : (w : World) (b : ℕ) → Kept w → b < 256 → Kept (step w b)
 kept-step w b k h =
     record {
       good = good-step w b (k .good) h;
-      screen = screen-length w b (k .good) ∙ k .screen;
+      framebuffer = framebuffer-length w b (k .good) ∙ k .framebuffer;
       store = rw (store-length w b (k .good) h) (k .store);
     }
 
@@ -67,7 +67,7 @@ back w k = decode-encode (w .state) (state-fits w (k .good))
 record-sound : (w : World) → Kept w → soundRecord 64 (encodeOf (w .state)) ≡ true
 unfolding height
 record-sound w k =
-    encoded-sound 64 (w .state) (state-fits w (k .good)) (subst (λ (n : ℕ). soundState (n / 30) (w .state) ≡ true) (k .screen) (k .good .sound))
+    encoded-sound 64 (w .state) (state-fits w (k .good)) (subst (λ (n : ℕ). soundState (n / 30) (w .state) ≡ true) (k .framebuffer) (k .good .sound))
 
 both-false : (a b : Bool) → a ≡ false → b ≡ false → (a || b) ≡ false
 both-false true b e f = e
@@ -78,20 +78,20 @@ welcome-passes Idle s h = refl
 welcome-passes Prefix s h = refl
 welcome-passes (Gathering c g) s h = refl
 welcome-passes (Inline x1 y1 x2 y2 d) s h = refl
-welcome-passes (Upload k n z t v c) s h = both-false (inUse s k n) (noRoom s z) (h .0) (h .1)
+welcome-passes (Upload k n z t v c) s h = both-false (inUse s k n) (lacksSpace s z) (h .0) (h .1)
 
 pass : (w : World) → Kept w → checked (saved w) ≡ 0
 unfolding checked
 pass w k =
     let d = back w k in
     let u = welcome-passes (w .state .port .phase) (w .store) (k .good .upload) in
-    rw (eq-eqb (length (w .screen)) 1920 (k .screen), k .store, record-sound w k, k .good .store .valid, d, u)
+    rw (eq-eqb (length (w .framebuffer)) 1920 (k .framebuffer), k .store, record-sound w k, k .good .store .valid, d, u)
 
 -- ---- memory that passes the checks is such a world, written
 
 -- every byte lent is a byte
 pub record ByteMemory (m : Memory) : Type 0 where
-  pub screen : Bytes (m .screen)
+  pub framebuffer : Bytes (m .framebuffer)
   pub store : Bytes (m .store)
   pub state : Bytes (m .state)
 
@@ -112,7 +112,7 @@ last-check true k e = absurd (never k e)
 last-check false k e = refl
 
 pub record Checks (m : Memory) : Type 0 where
-  pub screen : length (m .screen) ≡ 1920
+  pub framebuffer : length (m .framebuffer) ≡ 1920
   pub store : storeFits (m .store) ≡ true
   pub state : soundRecord 64 (m .state) ≡ true
   pub valid : validOf (m .store) ≡ true
@@ -121,11 +121,11 @@ pub record Checks (m : Memory) : Type 0 where
 checks : (m : Memory) → checked m ≡ 0 → Checks m
 unfolding checked
 checks m e =
-    let a = unanswered (eqb (length (m .screen)) 1920) 0 _ e in
+    let a = unanswered (eqb (length (m .framebuffer)) 1920) 0 _ e in
     let b = unanswered (storeFits (m .store)) 1 _ (a .1) in
     let c = unanswered (soundRecord 64 (m .state)) 2 _ (b .1) in
     let d = neither (validOf (m .store)) _ (last-check _ 3 (c .1)) in
-    record { screen = eqb-true (length (m .screen)) 1920 (a .0); store = b .0; state = c .0; valid = d .0; upload = d .1 }
+    record { framebuffer = eqb-true (length (m .framebuffer)) 1920 (a .0); store = b .0; state = c .0; valid = d .0; upload = d .1 }
 
 neither-use : (a b : Bool) → (a || b) ≡ false → (a ≡ false) × (b ≡ false)
 neither-use true b e = absurd (true≢false e)
@@ -136,7 +136,7 @@ passes-welcome Idle s h = tt
 passes-welcome Prefix s h = tt
 passes-welcome (Gathering c g) s h = tt
 passes-welcome (Inline x1 y1 x2 y2 d) s h = tt
-passes-welcome (Upload k n z t v c) s h = neither-use (inUse s k n) (noRoom s z) h
+passes-welcome (Upload k n z t v c) s h = neither-use (inUse s k n) (lacksSpace s z) h
 
 pub checked-kept : (m : Memory) → ByteMemory m → checked m ≡ 0 → Kept (loaded m)
 unfolding height
@@ -146,14 +146,14 @@ checked-kept m b e =
     let p = passed 64 (m .state) (c .state) .sound in
     record {
       good = record {
-        sound = subst (λ (n : ℕ). soundState (n / 30) (decodeOf (m .state)) ≡ true) (sym (c .screen)) p;
+        sound = subst (λ (n : ℕ). soundState (n / 30) (decodeOf (m .state)) ≡ true) (sym (c .framebuffer)) p;
         port-fits = port-fits (decodeOf (m .state)) f;
         panel-fits = panel-fits (decodeOf (m .state)) f;
         store = record { bytes = b .store; valid = c .valid };
-        screen = record { bytes = b .screen; low = omega (arith, c .screen) };
+        framebuffer = record { bytes = b .framebuffer; low = omega (arith, c .framebuffer) };
         upload = passes-welcome (decodeOf (m .state) .port .phase) (m .store) (c .upload);
       };
-      screen = c .screen;
+      framebuffer = c .framebuffer;
       store = c .store;
     }
 
@@ -236,7 +236,7 @@ pub record StartChecks (m : Memory) (q : List ℕ) : Type 0 where
 start-checks : (m : Memory) (q : List ℕ) → startChecked m q ≡ 0 → StartChecks m q
 unfolding startChecked
 start-checks m q e =
-    let a = unanswered (eqb (length (m .screen)) 1920) 0 _ e in
+    let a = unanswered (eqb (length (m .framebuffer)) 1920) 0 _ e in
     let b = unanswered (storeFits (m .store)) 1 _ (a .1) in
     let c = unanswered (eqb (length (m .state)) recordSize && eqb (length q) queue-record.recordSize) 2 _ (b .1) in
     let d = both (eqb (length (m .state)) recordSize) (eqb (length q) queue-record.recordSize) (c .0) in
@@ -244,14 +244,14 @@ start-checks m q e =
 
 -- the world that a start leaves
 abbrev pub startWorld : List ℕ → World
-startWorld s = world (replicate screenBytes 0) s (startState 64)
+startWorld s = world (replicate framebufferBytes 0) s (startState 64)
 
 pub start-kept : (m : Memory) (q : List ℕ) → Bytes (m .store) → startChecked m q ≡ 0 → Kept (startWorld (m .store))
 start-kept m q b e =
     let c = start-checks m q e in
     let g : List ℕ = replicate 1920 0 in
     let n : length g ≡ 1920 = length-replicate {A = ℕ} 1920 0 in
-    record { good = good-start 64 g (m .store) n (omega arith) (zeros 1920) b (c .valid); screen = n; store = c .store }
+    record { good = good-start 64 g (m .store) n (omega arith) (zeros 1920) b (c .valid); framebuffer = n; store = c .store }
 
 -- after a start that answers 0 every check passes, and the world is the start's
 pub start-passes : (m : Memory) (q : List ℕ) → Bytes (m .store) → startChecked m q ≡ 0

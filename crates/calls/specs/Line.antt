@@ -10,11 +10,11 @@ use Rattle.queue.specs.Queue.{arriveOf, takeOf}
 use Rattle.queue.specs.Record as queue-record
 use Rattle.record.specs.Reading.{decodeOf}
 use Rattle.record.specs.Record.{soundRecord}
-use Rattle.calls.specs.Memory.{screenRows}
+use Rattle.calls.specs.Memory.{framebufferRows}
 
 -- 3 unless both records are sound
 abbrev pub bothSound : List ℕ → List ℕ → Bool
-bothSound r q = soundRecord screenRows r && queue-record.soundRecord q
+bothSound r q = soundRecord framebufferRows r && queue-record.soundRecord q
 
 abbrev pub flowIn : List ℕ → Flow
 flowIn r = decodeOf r .port .flow

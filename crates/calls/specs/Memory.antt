@@ -13,53 +13,53 @@ use Rattle.record.specs.Reading.{decodeOf}
 use Rattle.record.specs.Writing.{encodeOf}
 use Rattle.record.specs.Record.{soundRecord}
 use Rattle.rules.specs.World.{World, world}
-use Rattle.rules.specs.Files.{inUse, noRoom}
+use Rattle.rules.specs.Files.{inUse, lacksSpace}
 use Rattle.rules.specs.Sound.{Good}
 
--- the screen's rows, and its bytes
-abbrev pub screenRows : ℕ
-screenRows = 64
+-- the framebuffer's rows, and its bytes
+abbrev pub framebufferRows : ℕ
+framebufferRows = 64
 
-abbrev pub screenBytes : ℕ
-screenBytes = 1920
+abbrev pub framebufferBytes : ℕ
+framebufferBytes = 1920
 
 abbrev pub storeFits : List ℕ → Bool
 storeFits s = leb 1024 (length s) && leb (length s) 32768
 
--- the screen, the store and the state record
+-- the framebuffer, the store and the state record
 pub record Memory : Type 0 where
-  pub screen : List ℕ
+  pub framebuffer : List ℕ
   pub store : List ℕ
   pub state : List ℕ
 
 abbrev pub memory : List ℕ → List ℕ → List ℕ → Memory
-memory g s r = record { screen = g; store = s; state = r }
+memory g s r = record { framebuffer = g; store = s; state = r }
 
 -- an upload under way would now get 25 or 24
 abbrev pub uploadRefused : List ℕ → Phase → Bool
 uploadRefused s Idle = false
 uploadRefused s Prefix = false
-uploadRefused s (Gathering c g) = false
-uploadRefused s (Inline x1 y1 x2 y2 d) = false
-uploadRefused s (Upload k n z t v c) = inUse s k n || noRoom s z
+uploadRefused s (Gathering code got) = false
+uploadRefused s (Inline x1 y1 x2 y2 came) = false
+uploadRefused s (Upload kind number size stored waiting byte) = inUse s kind number || lacksSpace s size
 
 -- THE CHECKS OF A PIECE: the answer 1 to 4 that it is refused with, or 0
 unfoldable pub checked : Memory → ℕ
 checked m =
-    cond (not (eqb (length (m .screen)) screenBytes)) 1
+    cond (not (eqb (length (m .framebuffer)) framebufferBytes)) 1
     (cond (not (storeFits (m .store))) 2
-    (cond (not (soundRecord screenRows (m .state))) 3
+    (cond (not (soundRecord framebufferRows (m .state))) 3
     (cond (not (validOf (m .store)) || uploadRefused (m .store) (decodeOf (m .state) .port .phase)) 4 0)))
 
 -- memory read, and a world written back
 abbrev pub loaded : Memory → World
-loaded m = world (m .screen) (m .store) (decodeOf (m .state))
+loaded m = world (m .framebuffer) (m .store) (decodeOf (m .state))
 
 abbrev pub saved : World → Memory
-saved w = memory (w .screen) (w .store) (encodeOf (w .state))
+saved w = memory (w .framebuffer) (w .store) (encodeOf (w .state))
 
 -- A WORLD THAT EVERY CHECK PASSES
 pub record Kept (w : World) : Type 0 where
   pub good : Good w
-  pub screen : length (w .screen) ≡ screenBytes
+  pub framebuffer : length (w .framebuffer) ≡ framebufferBytes
   pub store : storeFits (w .store) ≡ true

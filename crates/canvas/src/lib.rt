@@ -51,31 +51,31 @@ pub fn cell(x: u16, y: u16) -> usize
 }
 
 // Where a mask has a 1, the pixels of byte number `at`; beyond the framebuffer nothing.
-pub fn stamp(fb: &mut [u8], at: usize, mask: u8, c: Colour)
-    ensures { λ _. ⌜ now (fb .exit) ≡ fill (masked at mask) (c .black) (now (fb .entry)) ⌝ }
+pub fn stamp(framebuffer: &mut [u8], at: usize, mask: u8, c: Colour)
+    ensures { λ _. ⌜ now (framebuffer .exit) ≡ fill (masked at mask) (c .black) (now (framebuffer .entry)) ⌝ }
 {
-    if at < fb.len() {
-        fb[at] = painted(fb[at], mask, c);
+    if at < framebuffer.len() {
+        framebuffer[at] = painted(framebuffer[at], mask, c);
     }
 }
 
 // One pixel; beyond the framebuffer nothing.
-pub fn plot(fb: &mut [u8], x: u16, y: u16, c: Colour)
-    ensures { λ _. ⌜ now (fb .exit) ≡ fill (point x y) (c .black) (now (fb .entry)) ⌝ }
+pub fn plot(framebuffer: &mut [u8], x: u16, y: u16, c: Colour)
+    ensures { λ _. ⌜ now (framebuffer .exit) ≡ fill (point x y) (c .black) (now (framebuffer .entry)) ⌝ }
 {
     if x < WIDTH {
-        stamp(fb, cell(x, y), 128u8 >> (x % 8), c);
+        stamp(framebuffer, cell(x, y), 128u8 >> (x % 8), c);
     }
 }
 
 // Whether a pixel is black; beyond the framebuffer all are white.
-pub fn is_black(fb: &[u8], x: u16, y: u16) -> bool
-    ensures { λ r. ⌜ r ≡ black (now (fb .entry)) x y ⌝ }
+pub fn is_black(framebuffer: &[u8], x: u16, y: u16) -> bool
+    ensures { λ r. ⌜ r ≡ black (now (framebuffer .entry)) x y ⌝ }
 {
     if x < WIDTH {
         let at = cell(x, y);
-        if at < fb.len() {
-            return (fb[at] >> (7 - x % 8)) % 2 == 1;
+        if at < framebuffer.len() {
+            return (framebuffer[at] >> (7 - x % 8)) % 2 == 1;
         }
     }
     false

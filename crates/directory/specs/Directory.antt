@@ -6,6 +6,7 @@ use mathlib.Core.Bool.{Bool, true, false, cond, _&&_, _||_, not}
 use Prim.Native.Nat.{ℕ, zero, suc, _+_, _-_, _*_}
 use lib.ListN.{length, getD}
 use lib.Dec.{leb, eqb}
+use Rattle.refusals.specs.Refusals.{noSuchFile, accepted}
 use Rattle.directory.specs.declared.Entry.{Entry}
 use Rattle.directory.specs.declared.Totals.{Totals}
 use Rattle.directory.specs.declared.Found.{Found}
@@ -60,6 +61,11 @@ findIn (e ∷ es) p a k n = cond (isFile e k n) (At p a (e .size)) (findIn es (p
 
 abbrev pub findOf : List ℕ → ℕ → ℕ → Found
 findOf s k n = findIn (entries s) 0 256 k n
+
+-- the refusal's number
+abbrev pub foundNumber : Found → ℕ
+foundNumber (At position start size) = accepted
+foundNumber Nothing = noSuchFile
 
 -- no size 0, and not font 1
 unfoldable pub isFair : Entry → Bool

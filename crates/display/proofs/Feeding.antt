@@ -75,10 +75,10 @@ feeding-start w p r k =
     let z : taken w (length r) p ≡ 0 + taken w (length r) p = omega arith in
     record { kept = k; within = omega arith; next = refl; sent = refl; long = refl; room = omega arith; left = z ∙ ap (λ (m : ℕ). 0 + taken w m p) (sym n) }
 
--- the screen is as high as a kept world's is, and its phase is sound
-pub tall : (w : World) → Kept w → height (w .screen) ≡ 64
+-- the framebuffer is as high as a kept world's is, and its phase is sound
+pub tall : (w : World) → Kept w → height (w .framebuffer) ≡ 64
 unfolding height
-tall w k = omega (arith, k .screen)
+tall w k = omega (arith, k .framebuffer)
 
 pub phase-sound : (w : World) → Kept w → soundPhase (port w .phase) ≡ true
 phase-sound w k = parts (k .good) .port-good .phase .sound

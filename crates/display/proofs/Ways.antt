@@ -33,7 +33,7 @@ use Rattle.record.specs.Record.{encodedIn, soundRecord}
 use Rattle.record.proofs.Round.{encoded-whole, passed}
 use Rattle.record.proofs.Whole.{written-whole}
 use Rattle.rules.specs.World.{World, world}
-use Rattle.rules.specs.Files.{inUse, noRoom}
+use Rattle.rules.specs.Files.{inUse, lacksSpace}
 use Rattle.rules.specs.Calls.{said, taken}
 use Rattle.rules.proofs.Replies.{said-fits}
 use Rattle.calls.specs.Memory.{Memory, memory, storeFits, uploadRefused, checked, loaded, saved, Kept}
@@ -52,7 +52,7 @@ store-short s l = rw (lt-leb 1024 (length s) l)
 pub store-long : (s : List ℕ) → 1024 ≤ length s → leb (length s) 32768 ≡ storeFits s
 store-long s l = rw (le-leb 1024 (length s) l)
 
-pub blocked-is : (s : List ℕ) (f : Phase) (k n z t : ℕ) (v : Bool) (c : ℕ) (r : Bool) → f ≡ Upload k n z t v c → r ≡ (inUse s k n || noRoom s z) → r ≡ uploadRefused s f
+pub blocked-is : (s : List ℕ) (f : Phase) (k n z t : ℕ) (v : Bool) (c : ℕ) (r : Bool) → f ≡ Upload k n z t v c → r ≡ (inUse s k n || lacksSpace s z) → r ≡ uploadRefused s f
 blocked-is s f k n z t v c r e d = d ∙ ap (uploadRefused s) (sym e)
 
 -- ---- start
@@ -144,7 +144,7 @@ unfolding feedCall feedOf
 fed-0 m p r e = rw e
 
 ran-0 : (w : World) (p r : List ℕ) (v : World) (st q : List ℕ) (a n k : ℕ) → Ran w p r v q a n k → st ≡ encodeOf (v .state)
-    → called a (memory (v .screen) (v .store) st) q n k ≡ calledBy (fedBytes w p (taken w (length r) p)) r
+    → called a (memory (v .framebuffer) (v .store) st) q n k ≡ calledBy (fedBytes w p (taken w (length r) p)) r
 ran-0 w p r v st q a n k ran e =
     let l : List ℕ = said w (take n p) in
     let room : length l ≤ length r = subst (λ (i : ℕ). length (said w (take i p)) ≤ length r) (sym (ran .count)) (said-fits w (length r) p) in
@@ -152,7 +152,7 @@ ran-0 w p r v st q a n k ran e =
     rw (← ran .count, wrote, ran .long, ran .says, e) (ap (λ (x : World). called (cond (eqb n (length p)) 0 5) (saved x) (l ++ drop (length l) r) n (length l)) (ran .next))
 
 feed-0 : (m : Memory) (p r : List ℕ) (v : World) (st q : List ℕ) (a n k : ℕ) → checked m ≡ 0 → length (m .state) ≡ 201 → Ran (loaded m) p r v q a n k
-    → st ≡ encodedIn (v .state) (m .state) → called a (memory (v .screen) (v .store) st) q n k ≡ feedCall m p r
+    → st ≡ encodedIn (v .state) (m .state) → called a (memory (v .framebuffer) (v .store) st) q n k ≡ feedCall m p r
 feed-0 m p r v st q a n k c long ran e =
     ran-0 (loaded m) p r v st q a n k ran (e ∙ encoded-whole (v .state) (m .state) (state-fits v (ran .kept .good)) long) ∙ sym (fed-0 m p r c)
 
@@ -160,7 +160,7 @@ feed-0 m p r v st q a n k c long ran e =
 pub kept-there : (g s st : List ℕ) (z : State) → ((i : ℕ) → getD g i 0 < 256) → ((i : ℕ) → getD s i 0 < 256) → ((i : ℕ) → getD st i 0 < 256)
     → checked (memory g s st) ≡ 0 → z ≡ decodeOf st → Kept (world g s z)
 kept-there g s st z bg bs bt c e =
-    subst (λ (x : State). Kept (world g s x)) (sym e) (checked-kept (memory g s st) (record { screen = bg; store = bs; state = bt }) c)
+    subst (λ (x : State). Kept (world g s x)) (sym e) (checked-kept (memory g s st) (record { framebuffer = bg; store = bs; state = bt }) c)
 
 pub feed-end : (g s st p r : List ℕ) (u : Bool) (z : State) (g' s' : List ℕ) (z' : State) (st' q : List ℕ) (a n k : ℕ) → checked (memory g s st) ≡ 0
     → u ≡ soundRecord 64 st → not u ≡ false → z ≡ decodeOf st → Ran (world g s z) p r (world g' s' z') q a n k → st' ≡ encodedIn z' st

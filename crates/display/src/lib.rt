@@ -28,7 +28,7 @@ ghost use Rattle.display.specs.Running.{Ran};
 // Answers; those of the queue are its own.
 pub const DONE: u32 = 0;
 
-pub const BAD_GLASS: u32 = 1;
+pub const BAD_FRAMEBUFFER: u32 = 1;
 
 pub const BAD_STORE: u32 = 2;
 
@@ -38,7 +38,7 @@ pub const BAD_DIRECTORY: u32 = 4;
 
 pub const NO_REPLY_ROOM: u32 = 5;
 
-// The glass's rows.
+// The framebuffer's rows.
 pub const ROWS: u8 = 64;
 
 // The store's bytes, at least and at most.
@@ -74,14 +74,14 @@ fn send(replies: &mut [u8], at: usize, reply: Reply) -> usize
 
 // Obeys a piece as far as the reply room goes.
 fn run(
-    screen: &mut [u8],
+    framebuffer: &mut [u8],
     store: &mut [u8],
     state: State,
     piece: &[u8],
     replies: &mut [u8],
 ) -> Progress
-    requires { ⌜ Kept (world (now screen) (now store) state) ⌝ }
-    ensures { λ r. ⌜ Ran (world (now (screen .entry)) (now (store .entry)) state) (now (piece .entry)) (now (replies .entry)) (world (now (screen .exit)) (now (store .exit)) (r .state)) (now (replies .exit)) (r .answer) (r .consumed) (r .replied) ⌝ }
+    requires { ⌜ Kept (world (now framebuffer) (now store) state) ⌝ }
+    ensures { λ r. ⌜ Ran (world (now (framebuffer .entry)) (now (store .entry)) state) (now (piece .entry)) (now (replies .entry)) (world (now (framebuffer .exit)) (now (store .exit)) (r .state)) (now (replies .exit)) (r .answer) (r .consumed) (r .replied) ⌝ }
 {
     let mut s = state;
     let mut i = 0;
@@ -95,7 +95,7 @@ fn run(
                 replied: at,
             };
         }
-        let o = step(screen, store, s, ROWS, piece[i]);
+        let o = step(framebuffer, store, s, ROWS, piece[i]);
         at = send(replies, at, o.reply);
         let next = o.state;
         s = next;
@@ -156,18 +156,18 @@ fn empty_queue(queue: &mut [u8])
     queue[LOST_HIGH] = 0;
 }
 
-// A white glass, the start's state, an empty queue; the store stays.
+// A white framebuffer, the start's state, an empty queue; the store stays.
 #[no_mangle]
 pub extern "C" fn display_start(
-    glass: &mut [u8],
+    framebuffer: &mut [u8],
     store: &mut [u8],
     state: &mut [u8],
     queue: &mut [u8],
 ) -> u32
-    ensures { λ r. ⌜ started (memory (now (glass .exit)) (now (store .exit)) (now (state .exit))) (now (queue .exit)) r ≡ startOf (memory (now (glass .entry)) (now (store .entry)) (now (state .entry))) (now (queue .entry)) ⌝ }
+    ensures { λ r. ⌜ started (memory (now (framebuffer .exit)) (now (store .exit)) (now (state .exit))) (now (queue .exit)) r ≡ startOf (memory (now (framebuffer .entry)) (now (store .entry)) (now (state .entry))) (now (queue .entry)) ⌝ }
 {
-    if glass.len() != LENGTH {
-        return BAD_GLASS;
+    if framebuffer.len() != LENGTH {
+        return BAD_FRAMEBUFFER;
     }
     if !store_fits(store) {
         return BAD_STORE;
@@ -181,7 +181,7 @@ pub extern "C" fn display_start(
     if !is_valid(store) {
         return BAD_DIRECTORY;
     }
-    scroll::clear(glass);
+    scroll::clear(framebuffer);
     let s = start_state(ROWS);
     record::encode(s, state);
     empty_queue(queue);
@@ -191,7 +191,7 @@ pub extern "C" fn display_start(
 // A piece of the stream.
 #[no_mangle]
 pub extern "C" fn display_feed(
-    glass: &mut [u8],
+    framebuffer: &mut [u8],
     store: &mut [u8],
     state: &mut [u8],
     piece: &[u8],
@@ -199,12 +199,12 @@ pub extern "C" fn display_feed(
     consumed: &mut usize,
     replied: &mut usize,
 ) -> u32
-    ensures { λ r. ⌜ called r (memory (now (glass .exit)) (now (store .exit)) (now (state .exit))) (now (replies .exit)) (now (consumed .exit)) (now (replied .exit)) ≡ feedCall (memory (now (glass .entry)) (now (store .entry)) (now (state .entry))) (now (piece .entry)) (now (replies .entry)) ⌝ }
+    ensures { λ r. ⌜ called r (memory (now (framebuffer .exit)) (now (store .exit)) (now (state .exit))) (now (replies .exit)) (now (consumed .exit)) (now (replied .exit)) ≡ feedCall (memory (now (framebuffer .entry)) (now (store .entry)) (now (state .entry))) (now (piece .entry)) (now (replies .entry)) ⌝ }
 {
     *consumed = 0;
     *replied = 0;
-    if glass.len() != LENGTH {
-        return BAD_GLASS;
+    if framebuffer.len() != LENGTH {
+        return BAD_FRAMEBUFFER;
     }
     if !store_fits(store) {
         return BAD_STORE;
@@ -221,7 +221,7 @@ pub extern "C" fn display_feed(
     if is_blocked(store, phase) {
         return BAD_DIRECTORY;
     }
-    let ran = run(glass, store, s, piece, replies);
+    let ran = run(framebuffer, store, s, piece, replies);
     let next = ran.state;
     record::encode(next, state);
     *consumed = ran.consumed;

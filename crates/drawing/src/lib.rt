@@ -1,12 +1,12 @@
 // Drawing commands: clear, colour, pixel, line, frame, solid rectangle.
 use canvas::Colour;
 use canvas::plot;
-use outcome::CORNERS;
 use outcome::Outcome;
 use outcome::done;
 use outcome::put_text;
 use outcome::refused;
 use outcome::with_port;
+use refusals::CORNERS_OUT_OF_ORDER;
 use state::Drawing;
 use state::State;
 ghost use mathlib.Core.Path.{_≡_};
@@ -22,11 +22,11 @@ fn with_drawing(state: State, drawing: Drawing) -> State
     with_port(state, port)
 }
 
-// The whole screen white, and the text point home.
-pub fn clear(screen: &mut [u8], state: State) -> Outcome
-    ensures { λ r. ⌜ Paints clear state (now (screen .entry)) (now (screen .exit)) r ⌝ }
+// The whole framebuffer white, and the text point home.
+pub fn clear(framebuffer: &mut [u8], state: State) -> Outcome
+    ensures { λ r. ⌜ Paints clear state (now (framebuffer .entry)) (now (framebuffer .exit)) r ⌝ }
 {
-    scroll::clear(screen);
+    scroll::clear(framebuffer);
     let mut text = state.port.text;
     text.x = text.left as u16;
     text.y = text.top;
@@ -51,18 +51,18 @@ fn ink(state: State) -> Colour
     }
 }
 
-pub fn draw_pixel(screen: &mut [u8], state: State, x: u8, y: u8) -> Outcome
-    ensures { λ r. ⌜ Paints (λ w. drawPixel w x y) state (now (screen .entry)) (now (screen .exit)) r ⌝ }
+pub fn draw_pixel(framebuffer: &mut [u8], state: State, x: u8, y: u8) -> Outcome
+    ensures { λ r. ⌜ Paints (λ w. drawPixel w x y) state (now (framebuffer .entry)) (now (framebuffer .exit)) r ⌝ }
 {
-    plot(screen, x as u16, y as u16, ink(state));
+    plot(framebuffer, x as u16, y as u16, ink(state));
     done(state)
 }
 
-// The end is kept as it came, beyond the screen too.
-pub fn draw_line(screen: &mut [u8], state: State, x1: u8, y1: u8, x2: u8, y2: u8) -> Outcome
-    ensures { λ r. ⌜ Paints (λ w. drawLine w x1 y1 x2 y2) state (now (screen .entry)) (now (screen .exit)) r ⌝ }
+// The end is kept as it came, beyond the framebuffer too.
+pub fn draw_line(framebuffer: &mut [u8], state: State, x1: u8, y1: u8, x2: u8, y2: u8) -> Outcome
+    ensures { λ r. ⌜ Paints (λ w. drawLine w x1 y1 x2 y2) state (now (framebuffer .entry)) (now (framebuffer .exit)) r ⌝ }
 {
-    line::draw_line(screen, x1, y1, x2, y2, ink(state));
+    line::draw_line(framebuffer, x1, y1, x2, y2, ink(state));
     let mut drawing = state.port.drawing;
     drawing.x = x2;
     drawing.y = y2;
@@ -80,7 +80,7 @@ pub fn is_ordered(x1: u8, y1: u8, x2: u8, y2: u8) -> bool
 }
 
 pub fn draw_frame(
-    screen: &mut [u8],
+    framebuffer: &mut [u8],
     state: State,
     colour: u8,
     x1: u8,
@@ -88,17 +88,17 @@ pub fn draw_frame(
     x2: u8,
     y2: u8,
 ) -> Outcome
-    ensures { λ r. ⌜ Paints (λ w. drawFrame w colour x1 y1 x2 y2) state (now (screen .entry)) (now (screen .exit)) r ⌝ }
+    ensures { λ r. ⌜ Paints (λ w. drawFrame w colour x1 y1 x2 y2) state (now (framebuffer .entry)) (now (framebuffer .exit)) r ⌝ }
 {
     if !is_ordered(x1, y1, x2, y2) {
-        return refused(state, CORNERS);
+        return refused(state, CORNERS_OUT_OF_ORDER);
     }
-    rectangle::draw_frame(screen, x1, y1, x2, y2, Colour::from_byte(colour));
+    rectangle::draw_frame(framebuffer, x1, y1, x2, y2, Colour::from_byte(colour));
     done(state)
 }
 
 pub fn fill_rectangle(
-    screen: &mut [u8],
+    framebuffer: &mut [u8],
     state: State,
     colour: u8,
     x1: u8,
@@ -106,11 +106,11 @@ pub fn fill_rectangle(
     x2: u8,
     y2: u8,
 ) -> Outcome
-    ensures { λ r. ⌜ Paints (λ w. fillRectangle w colour x1 y1 x2 y2) state (now (screen .entry)) (now (screen .exit)) r ⌝ }
+    ensures { λ r. ⌜ Paints (λ w. fillRectangle w colour x1 y1 x2 y2) state (now (framebuffer .entry)) (now (framebuffer .exit)) r ⌝ }
 {
     if !is_ordered(x1, y1, x2, y2) {
-        return refused(state, CORNERS);
+        return refused(state, CORNERS_OUT_OF_ORDER);
     }
-    rectangle::fill_rectangle(screen, x1, y1, x2, y2, Colour::from_byte(colour));
+    rectangle::fill_rectangle(framebuffer, x1, y1, x2, y2, Colour::from_byte(colour));
     done(state)
 }

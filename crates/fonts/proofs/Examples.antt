@@ -5,7 +5,7 @@ use mathlib.Core.Bool.{true, false}
 use mathlib.Core.List.{List, [], _∷_}
 use Prim.Native.Nat.{ℕ}
 use lib.ListN.{take}
-use Rattle.fonts.specs.Checks.{within}
+use Rattle.fonts.specs.Checks.{between}
 use Rattle.fonts.specs.Bitmaps.{packedBytes, isBitmap}
 use Rattle.fonts.specs.Fonts.{offsetAt, widthAt, entryOf, isEntry, areEntries, isFont}
 
@@ -14,17 +14,17 @@ abbrev pub small : List ℕ
 small = 3 ∷ 5 ∷ 65 ∷ 66 ∷ 0 ∷ 10 ∷ 3 ∷ 0 ∷ 12 ∷ 4 ∷ 87 ∷ 218 ∷ 116 ∷ 99 ∷ 31 ∷ []
 
 pub small-good : isFont 5 small ≡ true
-unfolding isFont areEntries isEntry offsetAt widthAt packedBytes within
+unfolding isFont areEntries isEntry offsetAt widthAt packedBytes between
 small-good = refl
 
--- higher than the screen
+-- higher than the framebuffer
 pub small-high : isFont 4 small ≡ false
-unfolding isFont areEntries isEntry offsetAt widthAt packedBytes within
+unfolding isFont areEntries isEntry offsetAt widthAt packedBytes between
 small-high = refl
 
 -- without its last byte
 pub small-cut : isFont 5 (take 14 small) ≡ false
-unfolding isFont areEntries isEntry offsetAt widthAt packedBytes within
+unfolding isFont areEntries isEntry offsetAt widthAt packedBytes between
 small-cut = refl
 
 pub small-entry : entryOf small 1 ≡ record { offset = 12; width = 4 }

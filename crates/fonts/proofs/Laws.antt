@@ -10,7 +10,7 @@ use lib.ListN.{length, drop, length-drop}
 use borrow.Author.Tests.{le-leb, leb-true, ltb-true, eqb-true}
 use Rattle.fonts.specs.declared.Check.{Check}
 use Rattle.fonts.specs.declared.Check.the-variants.{Good, Malformed}
-use Rattle.fonts.specs.Checks.{within, checkOf}
+use Rattle.fonts.specs.Checks.{between, checkOf}
 use Rattle.fonts.specs.Bitmaps.{packedBytes, bitmapWidth, bitmapHeight, isBitmap}
 use Rattle.fonts.specs.Fonts.{nominalWidth, heightOf, firstOf, lastOf, countOf, offsetAt, widthAt, isEntry, areEntries, isFont}
 
@@ -35,13 +35,13 @@ pub record Within (a b n : ℕ) : Type 0 where
   pub from : a ≤ n
   pub to : n ≤ b
 
-within-is : (a b n : ℕ) → within a b n ≡ true → Within a b n
-unfolding within
-within-is a b n h = record { from = leb-true a n (and-left (leb a n) (leb n b) h); to = leb-true n b (and-right (leb a n) (leb n b) h) }
+between-is : (a b n : ℕ) → between a b n ≡ true → Within a b n
+unfolding between
+between-is a b n h = record { from = leb-true a n (and-left (leb a n) (leb n b) h); to = leb-true n b (and-right (leb a n) (leb n b) h) }
 
-is-within : (a b n : ℕ) → Within a b n → within a b n ≡ true
-unfolding within
-is-within a b n h = rw (le-leb a n (h .from), le-leb n b (h .to))
+is-between : (a b n : ℕ) → Within a b n → between a b n ≡ true
+unfolding between
+is-between a b n h = rw (le-leb a n (h .from), le-leb n b (h .to))
 
 -- ---- entries
 
@@ -53,10 +53,10 @@ pub record Inside (s : List ℕ) (o w : ℕ) : Type 0 where
 entry-inside : (s : List ℕ) (k : ℕ) → isEntry s k ≡ true → Inside s (offsetAt s k) (widthAt s k)
 unfolding isEntry
 entry-inside s k h =
-    let b = within 1 240 (widthAt s k) in
+    let b = between 1 240 (widthAt s k) in
     let c = leb (offsetAt s k + packedBytes (widthAt s k) (heightOf s)) (length s) in
     record {
-      width = within-is 1 240 (widthAt s k) (and-left b c h);
+      width = between-is 1 240 (widthAt s k) (and-left b c h);
       ends = leb-true (offsetAt s k + packedBytes (widthAt s k) (heightOf s)) (length s) (and-right b c h);
     }
 
@@ -82,8 +82,8 @@ module _ (m : ℕ) (s : List ℕ) (h : isFont m s ≡ true) where
   unfolding isFont
   font =
       let a = leb 4 (length s) in
-      let b = within 1 240 (nominalWidth s) in
-      let c = within 1 m (heightOf s) in
+      let b = between 1 240 (nominalWidth s) in
+      let c = between 1 m (heightOf s) in
       let d = leb (firstOf s) (lastOf s) in
       let e = leb (4 + 3 * countOf s) (length s) in
       let f = areEntries (countOf s) 0 s in
@@ -92,8 +92,8 @@ module _ (m : ℕ) (s : List ℕ) (h : isFont m s ≡ true) where
       let h3 = and-left (a && b && c) d h4 in
       let h2 = and-left (a && b) c h3 in
       record {
-        nominal = within-is 1 240 (nominalWidth s) (and-right a b h2);
-        height = within-is 1 m (heightOf s) (and-right (a && b) c h3);
+        nominal = between-is 1 240 (nominalWidth s) (and-right a b h2);
+        height = between-is 1 m (heightOf s) (and-right (a && b) c h3);
         order = leb-true (firstOf s) (lastOf s) (and-right (a && b && c) d h4);
         table = leb-true (4 + 3 * countOf s) (length s) (and-right (a && b && c && d) e h5);
         entries = λ k l. entry-inside s k (rw (zero-plus k) at (entries-each (countOf s) 0 s (and-right (a && b && c && d && e) f h) k l));
@@ -102,13 +102,13 @@ module _ (m : ℕ) (s : List ℕ) (h : isFont m s ≡ true) where
       zero-plus : (k : ℕ) → 0 + k ≡ k
       zero-plus k = omega arith
 
--- a good font is one for any taller screen
+-- a good font is one for any taller framebuffer
 pub font-taller : (m n : ℕ) (s : List ℕ) → m ≤ n → isFont m s ≡ true → isFont n s ≡ true
 unfolding isFont
 font-taller m n s l h =
     let q = font m s h .height in
-    let x : within 1 m (heightOf s) ≡ true = is-within 1 m (heightOf s) q in
-    let y : within 1 n (heightOf s) ≡ true = is-within 1 n (heightOf s) (record { from = q .from; to = omega (arith, q .to) }) in
+    let x : between 1 m (heightOf s) ≡ true = is-between 1 m (heightOf s) q in
+    let y : between 1 n (heightOf s) ≡ true = is-between 1 n (heightOf s) (record { from = q .from; to = omega (arith, q .to) }) in
     rw y (rw x at h)
 
 -- ---- a good bitmap

@@ -11,7 +11,7 @@ use lib.ListN.{length, getD}
 use borrow.Author.Tests.{le-leb, lt-leb, le-ltb, lt-ltb}
 use Rattle.fonts.specs.declared.Entry.{Entry}
 use Rattle.fonts.specs.declared.Check.the-variants.{Good, Malformed}
-use Rattle.fonts.specs.Checks.{within, checkOf}
+use Rattle.fonts.specs.Checks.{between, checkOf}
 use Rattle.fonts.specs.Bitmaps.{packedBytes, bitmapWidth, bitmapHeight, isBitmap}
 use Rattle.fonts.specs.Fonts.{nominalWidth, heightOf, firstOf, lastOf, countOf, offsetAt, widthAt, entryOf, isEntry, areEntries, isFont}
 
@@ -29,13 +29,13 @@ packed-is w h a b e f = rw (e, f)
 
 -- ---- 1 to a number
 
-pub within-zero : (m n : ℕ) → n ≡ 0 → false ≡ within 1 m n
-unfolding within
-within-zero m n h = rw h
+pub between-zero : (m n : ℕ) → n ≡ 0 → false ≡ between 1 m n
+unfolding between
+between-zero m n h = rw h
 
-pub within-rest : (m n : ℕ) → (n ≡ 0 → ⊥) → leb n m ≡ within 1 m n
-unfolding within
-within-rest m n h = rw (le-leb 1 n (omega arith))
+pub between-rest : (m n : ℕ) → (n ≡ 0 → ⊥) → leb n m ≡ between 1 m n
+unfolding between
+between-rest m n h = rw (le-leb 1 n (omega arith))
 
 -- ---- an entry
 
@@ -53,11 +53,11 @@ entry-is s k n o w e f g = rw (f, g, e)
 
 -- ---- the entries
 
-pub entry-narrow : (s : List ℕ) (k w : ℕ) (b : Bool) → w ≡ widthAt s k → b ≡ within 1 240 w → b ≡ false → false ≡ isEntry s k
+pub entry-narrow : (s : List ℕ) (k w : ℕ) (b : Bool) → w ≡ widthAt s k → b ≡ between 1 240 w → b ≡ false → false ≡ isEntry s k
 unfolding isEntry
 entry-narrow s k w b e f g = rw (← e, ← f, g)
 
-pub entry-ends : (s : List ℕ) (k w h n o : ℕ) (b : Bool) → w ≡ widthAt s k → b ≡ within 1 240 w → b ≡ true → h ≡ heightOf s → n ≡ packedBytes w h → o ≡ offsetAt s k
+pub entry-ends : (s : List ℕ) (k w h n o : ℕ) (b : Bool) → w ≡ widthAt s k → b ≡ between 1 240 w → b ≡ true → h ≡ heightOf s → n ≡ packedBytes w h → o ≡ offsetAt s k
     → leb (o + n) (length s) ≡ isEntry s k
 unfolding isEntry
 entry-ends s k w h n o b e f g i j l = rw (← e, ← f, g, j, l, i)
@@ -90,25 +90,25 @@ module _ (m : ℕ) (s : List ℕ) where
   unfolding isFont
   font-short h = rw (lt-leb 4 (length s) h)
 
-  module _ (w : ℕ) (b : Bool) (l : 4 ≤ length s) (e : w ≡ nominalWidth s) (f : b ≡ within 1 240 w) where
+  module _ (w : ℕ) (b : Bool) (l : 4 ≤ length s) (e : w ≡ nominalWidth s) (f : b ≡ between 1 240 w) where
     pub font-nominal : b ≡ false → false ≡ isFont m s
     unfolding isFont
-    font-nominal g = let x : within 1 240 (nominalWidth s) ≡ false = rw e at (sym f ∙ g) in rw (le-leb 4 (length s) l, x)
+    font-nominal g = let x : between 1 240 (nominalWidth s) ≡ false = rw e at (sym f ∙ g) in rw (le-leb 4 (length s) l, x)
 
-    module _ (g : b ≡ true) (h : ℕ) (d : Bool) (i : h ≡ heightOf s) (j : d ≡ within 1 m h) where
+    module _ (g : b ≡ true) (h : ℕ) (d : Bool) (i : h ≡ heightOf s) (j : d ≡ between 1 m h) where
       pub font-height : d ≡ false → false ≡ isFont m s
       unfolding isFont
       font-height k =
-          let x : within 1 240 (nominalWidth s) ≡ true = rw e at (sym f ∙ g) in
-          let y : within 1 m (heightOf s) ≡ false = rw i at (sym j ∙ k) in
+          let x : between 1 240 (nominalWidth s) ≡ true = rw e at (sym f ∙ g) in
+          let y : between 1 m (heightOf s) ≡ false = rw i at (sym j ∙ k) in
           rw (le-leb 4 (length s) l, x, y)
 
       -- what the first three clauses leave
       font-from : d ≡ true → isFont m s ≡ (leb (firstOf s) (lastOf s) && leb (4 + 3 * countOf s) (length s) && areEntries (countOf s) 0 s)
       unfolding isFont
       font-from k =
-          let x : within 1 240 (nominalWidth s) ≡ true = rw e at (sym f ∙ g) in
-          let y : within 1 m (heightOf s) ≡ true = rw i at (sym j ∙ k) in
+          let x : between 1 240 (nominalWidth s) ≡ true = rw e at (sym f ∙ g) in
+          let y : between 1 m (heightOf s) ≡ true = rw i at (sym j ∙ k) in
           rw (le-leb 4 (length s) l, x, y)
 
       module _ (k : d ≡ true) (p q : ℕ) (ep : p ≡ firstOf s) (eq : q ≡ lastOf s) where

@@ -7,7 +7,7 @@ use Prim.Native.Nat.{ℕ, zero, suc, _+_, _-_, _*_}
 use lib.Dec.{leb}
 use lib.ListN.{length, getD}
 use Rattle.fonts.specs.declared.Entry.{Entry}
-use Rattle.fonts.specs.Checks.{within}
+use Rattle.fonts.specs.Checks.{between}
 use Rattle.fonts.specs.Bitmaps.{packedBytes}
 
 abbrev pub nominalWidth : List ℕ → ℕ
@@ -38,20 +38,20 @@ entryOf s k = record { offset = offsetAt s k; width = widthAt s k }
 
 -- its width is 1 to 240, and its rows are inside the file
 unfoldable pub isEntry : List ℕ → ℕ → Bool
-isEntry s k = within 1 240 (widthAt s k) && leb (offsetAt s k + packedBytes (widthAt s k) (heightOf s)) (length s)
+isEntry s k = between 1 240 (widthAt s k) && leb (offsetAt s k + packedBytes (widthAt s k) (heightOf s)) (length s)
 
 -- the n entries from number k on
 unfoldable pub areEntries : ℕ → ℕ → List ℕ → Bool
 areEntries zero k s = true
 areEntries (suc n) k s = isEntry s k && areEntries n (k + 1) s
 
--- THE FILE IS A FONT, for a screen of m rows: nominal width 1 to 240, height 1 to m, the first character at most the last,
+-- THE FILE IS A FONT, for a framebuffer of m rows: nominal width 1 to 240, height 1 to m, the first character at most the last,
 -- header and table inside the file, and each entry by the rules
 unfoldable pub isFont : ℕ → List ℕ → Bool
 isFont m s =
     leb 4 (length s)
-    && within 1 240 (nominalWidth s)
-    && within 1 m (heightOf s)
+    && between 1 240 (nominalWidth s)
+    && between 1 m (heightOf s)
     && leb (firstOf s) (lastOf s)
     && leb (4 + 3 * countOf s) (length s)
     && areEntries (countOf s) 0 s

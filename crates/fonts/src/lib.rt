@@ -2,7 +2,7 @@
 use directory::byte_at;
 ghost use mathlib.Core.Path.{_≡_};
 ghost use Prim.Native.Nat.{_≤_, _<_};
-ghost use Rattle.fonts.specs.Checks.{checkOf, within};
+ghost use Rattle.fonts.specs.Checks.{checkOf, between};
 ghost use Rattle.fonts.specs.Bitmaps.{packedBytes, bitmapWidth, bitmapHeight, isBitmap};
 ghost use Rattle.fonts.specs.Fonts.{nominalWidth, heightOf, firstOf, lastOf, offsetAt, widthAt, entryOf, isEntry, areEntries, isFont};
 
@@ -94,8 +94,8 @@ pub fn entry_at(file: &[u8], k: u8) -> Entry
 }
 
 // Whether n is from 1 to most.
-fn is_within(n: u8, most: u8) -> bool
-    ensures { λ r. ⌜ r ≡ within 1 most n ⌝ }
+fn is_between(n: u8, most: u8) -> bool
+    ensures { λ r. ⌜ r ≡ between 1 most n ⌝ }
 {
     if n == 0 {
         return false;
@@ -109,7 +109,7 @@ fn is_entry(file: &[u8], k: usize) -> bool
     ensures { λ r. ⌜ r ≡ isEntry (now (file .entry)) k ⌝ }
 {
     let width = width_at(file, k);
-    if !is_within(width, MAX_WIDTH) {
+    if !is_between(width, MAX_WIDTH) {
         return false;
     }
     let n = packed_bytes(width, height(file));
@@ -138,10 +138,10 @@ fn is_font(file: &[u8], max_height: u8) -> bool
     if file.len() < HEADER {
         return false;
     }
-    if !is_within(nominal_width(file), MAX_WIDTH) {
+    if !is_between(nominal_width(file), MAX_WIDTH) {
         return false;
     }
-    if !is_within(height(file), max_height) {
+    if !is_between(height(file), max_height) {
         return false;
     }
     let from = first(file);
@@ -156,7 +156,7 @@ fn is_font(file: &[u8], max_height: u8) -> bool
     are_entries(file, n)
 }
 
-// Whether a file is a font for a screen of max_height rows.
+// Whether a file is a font for a framebuffer of max_height rows.
 pub fn check_font(file: &[u8], max_height: u8) -> Check
     ensures { λ r. ⌜ r ≡ checkOf (isFont «max_height» (now (file .entry))) ⌝ }
 {

@@ -14,92 +14,92 @@ use scroll::clear;
 use scroll::scroll_up;
 use strip_chart::shift_strip;
 
-fn show_pixel(fb: &[u8], x: u16, y: u16) {
-    if is_black(fb, x, y) {
+fn show_pixel(framebuffer: &[u8], x: u16, y: u16) {
+    if is_black(framebuffer, x, y) {
         io::write_all(1, b"#");
     } else {
         io::write_all(1, b".");
     }
 }
 
-fn show_row(fb: &[u8], x1: u16, x2: u16, y: u16) {
+fn show_row(framebuffer: &[u8], x1: u16, x2: u16, y: u16) {
     let mut x = x1;
     while x < x2 {
-        show_pixel(fb, x, y);
+        show_pixel(framebuffer, x, y);
         x += 1;
     }
     io::write_all(1, b"\n");
 }
 
 // Columns x1 up to, and not with, x2 of rows y1 up to, and not with, y2.
-fn show(fb: &[u8], x1: u16, x2: u16, y1: u16, y2: u16) {
+fn show(framebuffer: &[u8], x1: u16, x2: u16, y1: u16, y2: u16) {
     let mut y = y1;
     while y < y2 {
-        show_row(fb, x1, x2, y);
+        show_row(framebuffer, x1, x2, y);
         y += 1;
     }
 }
 
 fn pixels() {
-    let mut fb = [0u8; LENGTH];
-    plot(&mut fb, 0, 0, Colour::BLACK);
-    plot(&mut fb, 3, 1, Colour::BLACK);
-    plot(&mut fb, 240, 0, Colour::BLACK);
+    let mut framebuffer = [0u8; LENGTH];
+    plot(&mut framebuffer, 0, 0, Colour::BLACK);
+    plot(&mut framebuffer, 3, 1, Colour::BLACK);
+    plot(&mut framebuffer, 240, 0, Colour::BLACK);
     io::write_all(1, b"pixels 0 0, 3 1 and 240 0\n");
-    show(&fb, 0, 8, 0, 2);
+    show(&framebuffer, 0, 8, 0, 2);
 }
 
 fn colours() {
-    let mut fb = [0u8; LENGTH];
-    fill_rectangle(&mut fb, 0, 0, 5, 0, Colour::BLACK);
-    plot(&mut fb, 1, 0, Colour::from_byte(0));
-    plot(&mut fb, 2, 0, Colour::from_byte(1));
-    plot(&mut fb, 3, 0, Colour::from_byte(2));
-    plot(&mut fb, 4, 0, Colour::from_byte(255));
+    let mut framebuffer = [0u8; LENGTH];
+    fill_rectangle(&mut framebuffer, 0, 0, 5, 0, Colour::BLACK);
+    plot(&mut framebuffer, 1, 0, Colour::from_byte(0));
+    plot(&mut framebuffer, 2, 0, Colour::from_byte(1));
+    plot(&mut framebuffer, 3, 0, Colour::from_byte(2));
+    plot(&mut framebuffer, 4, 0, Colour::from_byte(255));
     io::write_all(1, b"colour bytes 0 1 2 255 on black, from column 1\n");
-    show(&fb, 0, 6, 0, 1);
+    show(&framebuffer, 0, 6, 0, 1);
 }
 
 fn solids() {
-    let mut fb = [0u8; LENGTH];
-    fill_rectangle(&mut fb, 1, 1, 3, 2, Colour::BLACK);
-    fill_rectangle(&mut fb, 2, 1, 2, 1, Colour::WHITE);
+    let mut framebuffer = [0u8; LENGTH];
+    fill_rectangle(&mut framebuffer, 1, 1, 3, 2, Colour::BLACK);
+    fill_rectangle(&mut framebuffer, 2, 1, 2, 1, Colour::WHITE);
     io::write_all(1, b"solid 1 1 3 2, then white 2 1 2 1\n");
-    show(&fb, 0, 6, 0, 4);
-    fill_rectangle(&mut fb, 238, 62, 255, 255, Colour::BLACK);
+    show(&framebuffer, 0, 6, 0, 4);
+    fill_rectangle(&mut framebuffer, 238, 62, 255, 255, Colour::BLACK);
     io::write_all(1, b"solid 238 62 255 255, from column 234 of row 60\n");
-    show(&fb, 234, 240, 60, 64);
+    show(&framebuffer, 234, 240, 60, 64);
 }
 
 fn frames() {
-    let mut fb = [0u8; LENGTH];
-    draw_frame(&mut fb, 1, 0, 5, 3, Colour::BLACK);
+    let mut framebuffer = [0u8; LENGTH];
+    draw_frame(&mut framebuffer, 1, 0, 5, 3, Colour::BLACK);
     io::write_all(1, b"frame 1 0 5 3\n");
-    show(&fb, 0, 7, 0, 5);
-    draw_frame(&mut fb, 236, 60, 250, 70, Colour::BLACK);
+    show(&framebuffer, 0, 7, 0, 5);
+    draw_frame(&mut framebuffer, 236, 60, 250, 70, Colour::BLACK);
     io::write_all(1, b"frame 236 60 250 70, from column 234 of row 59\n");
-    show(&fb, 234, 240, 59, 64);
+    show(&framebuffer, 234, 240, 59, 64);
 }
 
 fn lines() {
-    let mut fb = [0u8; LENGTH];
-    draw_line(&mut fb, 0, 0, 2, 1, Colour::BLACK);
+    let mut framebuffer = [0u8; LENGTH];
+    draw_line(&mut framebuffer, 0, 0, 2, 1, Colour::BLACK);
     io::write_all(1, b"line 0 0 2 1\n");
-    show(&fb, 0, 3, 0, 2);
-    clear(&mut fb);
-    draw_line(&mut fb, 2, 1, 0, 0, Colour::BLACK);
+    show(&framebuffer, 0, 3, 0, 2);
+    clear(&mut framebuffer);
+    draw_line(&mut framebuffer, 2, 1, 0, 0, Colour::BLACK);
     io::write_all(1, b"line 2 1 0 0\n");
-    show(&fb, 0, 3, 0, 2);
-    draw_line(&mut fb, 7, 7, 7, 7, Colour::BLACK);
+    show(&framebuffer, 0, 3, 0, 2);
+    draw_line(&mut framebuffer, 7, 7, 7, 7, Colour::BLACK);
     io::write_all(1, b"line 7 7 7 7, from column 6 of row 6\n");
-    show(&fb, 6, 9, 6, 9);
-    clear(&mut fb);
-    draw_line(&mut fb, 1, 0, 0, 3, Colour::BLACK);
+    show(&framebuffer, 6, 9, 6, 9);
+    clear(&mut framebuffer);
+    draw_line(&mut framebuffer, 1, 0, 0, 3, Colour::BLACK);
     io::write_all(1, b"line 1 0 0 3\n");
-    show(&fb, 0, 2, 0, 4);
-    draw_line(&mut fb, 250, 0, 236, 0, Colour::BLACK);
+    show(&framebuffer, 0, 2, 0, 4);
+    draw_line(&mut framebuffer, 250, 0, 236, 0, Colour::BLACK);
     io::write_all(1, b"line 250 0 236 0, from column 234\n");
-    show(&fb, 234, 240, 0, 1);
+    show(&framebuffer, 234, 240, 0, 1);
 }
 
 fn bar(kind: u8, x1: u8, y1: u8, x2: u8, y2: u8) -> Bar {
@@ -114,118 +114,122 @@ fn bar(kind: u8, x1: u8, y1: u8, x2: u8, y2: u8) -> Bar {
 }
 
 fn vertical_bars() {
-    let mut fb = [0u8; LENGTH];
-    let up = write_bar(&mut fb, bar(bar_graph::FROM_BOTTOM, 1, 0, 3, 4), 2);
+    let mut framebuffer = [0u8; LENGTH];
+    let up = write_bar(&mut framebuffer, bar(bar_graph::FROM_BOTTOM, 1, 0, 3, 4), 2);
     io::write_all(1, b"bar from the bottom, 1 0 3 4, value 2\n");
-    show(&fb, 0, 5, 0, 5);
-    write_bar(&mut fb, up, 0);
-    write_bar(&mut fb, bar(bar_graph::FROM_TOP, 1, 0, 3, 4), 2);
+    show(&framebuffer, 0, 5, 0, 5);
+    write_bar(&mut framebuffer, up, 0);
+    write_bar(&mut framebuffer, bar(bar_graph::FROM_TOP, 1, 0, 3, 4), 2);
     io::write_all(1, b"bar from the top, 1 0 3 4, value 2\n");
-    show(&fb, 0, 5, 0, 5);
-    write_bar(&mut fb, bar(bar_graph::FROM_BOTTOM, 10, 10, 12, 19), 255);
+    show(&framebuffer, 0, 5, 0, 5);
+    write_bar(
+        &mut framebuffer,
+        bar(bar_graph::FROM_BOTTOM, 10, 10, 12, 19),
+        255,
+    );
     io::write_all(
         1,
         b"bar from the bottom, 10 10 12 19, value 255, from column 9 of row 9\n",
     );
-    show(&fb, 9, 14, 9, 21);
+    show(&framebuffer, 9, 14, 9, 21);
 }
 
 fn horizontal_bars() {
-    let mut fb = [0u8; LENGTH];
-    let right = write_bar(&mut fb, bar(bar_graph::FROM_LEFT, 0, 0, 9, 1), 3);
+    let mut framebuffer = [0u8; LENGTH];
+    let right = write_bar(&mut framebuffer, bar(bar_graph::FROM_LEFT, 0, 0, 9, 1), 3);
     io::write_all(1, b"bar from the left, 0 0 9 1, value 3\n");
-    show(&fb, 0, 10, 0, 2);
-    let grown = write_bar(&mut fb, right, 5);
+    show(&framebuffer, 0, 10, 0, 2);
+    let grown = write_bar(&mut framebuffer, right, 5);
     io::write_all(1, b"then 5\n");
-    show(&fb, 0, 10, 0, 2);
-    write_bar(&mut fb, grown, 2);
+    show(&framebuffer, 0, 10, 0, 2);
+    write_bar(&mut framebuffer, grown, 2);
     io::write_all(1, b"then 2\n");
-    show(&fb, 0, 10, 0, 2);
-    clear(&mut fb);
-    write_bar(&mut fb, grown, 7);
+    show(&framebuffer, 0, 10, 0, 2);
+    clear(&mut framebuffer);
+    write_bar(&mut framebuffer, grown, 7);
     io::write_all(1, b"wiped at 5, then 7: only what differs is painted\n");
-    show(&fb, 0, 10, 0, 2);
-    clear(&mut fb);
-    write_bar(&mut fb, bar(bar_graph::FROM_RIGHT, 0, 0, 9, 1), 3);
+    show(&framebuffer, 0, 10, 0, 2);
+    clear(&mut framebuffer);
+    write_bar(&mut framebuffer, bar(bar_graph::FROM_RIGHT, 0, 0, 9, 1), 3);
     io::write_all(1, b"bar from the right, 0 0 9 1, value 3\n");
-    show(&fb, 0, 10, 0, 2);
-    fill_rectangle(&mut fb, 0, 0, 9, 1, Colour::BLACK);
-    write_bar(&mut fb, bar(bar_graph::FROM_LEFT, 1, 0, 8, 1), 0);
+    show(&framebuffer, 0, 10, 0, 2);
+    fill_rectangle(&mut framebuffer, 0, 0, 9, 1, Colour::BLACK);
+    write_bar(&mut framebuffer, bar(bar_graph::FROM_LEFT, 1, 0, 8, 1), 0);
     io::write_all(1, b"all black, then a bar 1 0 8 1 written with 0\n");
-    show(&fb, 0, 10, 0, 2);
+    show(&framebuffer, 0, 10, 0, 2);
 }
 
 // ##.##.## in row 0.
-fn pattern(fb: &mut [u8]) {
-    fill_rectangle(fb, 0, 0, 7, 0, Colour::BLACK);
-    plot(fb, 2, 0, Colour::WHITE);
-    plot(fb, 5, 0, Colour::WHITE);
+fn pattern(framebuffer: &mut [u8]) {
+    fill_rectangle(framebuffer, 0, 0, 7, 0, Colour::BLACK);
+    plot(framebuffer, 2, 0, Colour::WHITE);
+    plot(framebuffer, 5, 0, Colour::WHITE);
 }
 
 fn strips() {
-    let mut fb = [0u8; LENGTH];
-    pattern(&mut fb);
+    let mut framebuffer = [0u8; LENGTH];
+    pattern(&mut framebuffer);
     io::write_all(1, b"a row\n");
-    show(&fb, 0, 8, 0, 1);
-    shift_strip(&mut fb, 1, 0, 5, 0, false);
+    show(&framebuffer, 0, 8, 0, 1);
+    shift_strip(&mut framebuffer, 1, 0, 5, 0, false);
     io::write_all(1, b"strip 1 0 5 0 of it moved left\n");
-    show(&fb, 0, 8, 0, 1);
-    pattern(&mut fb);
-    shift_strip(&mut fb, 1, 0, 5, 0, true);
+    show(&framebuffer, 0, 8, 0, 1);
+    pattern(&mut framebuffer);
+    shift_strip(&mut framebuffer, 1, 0, 5, 0, true);
     io::write_all(1, b"strip 1 0 5 0 of it moved right\n");
-    show(&fb, 0, 8, 0, 1);
+    show(&framebuffer, 0, 8, 0, 1);
 }
 
 fn packed() {
-    let mut fb = [0u8; LENGTH];
+    let mut framebuffer = [0u8; LENGTH];
     let t = [0xe9, 0x24];
-    paint_packed(&mut fb, 1, 1, 3, 5, &t);
+    paint_packed(&mut framebuffer, 1, 1, 3, 5, &t);
     io::write_all(1, b"glyph E9 24, 3 by 5, at 1 1\n");
-    show(&fb, 0, 5, 0, 7);
-    fill_rectangle(&mut fb, 0, 0, 4, 6, Colour::BLACK);
-    paint_packed(&mut fb, 1, 1, 3, 5, &t);
+    show(&framebuffer, 0, 5, 0, 7);
+    fill_rectangle(&mut framebuffer, 0, 0, 4, 6, Colour::BLACK);
+    paint_packed(&mut framebuffer, 1, 1, 3, 5, &t);
     io::write_all(1, b"the same on black\n");
-    show(&fb, 0, 5, 0, 7);
-    clear(&mut fb);
+    show(&framebuffer, 0, 5, 0, 7);
+    clear(&mut framebuffer);
     let ring = [0xfc, 0x63, 0xf0];
-    paint_packed(&mut fb, 0, 0, 5, 4, &ring);
+    paint_packed(&mut framebuffer, 0, 0, 5, 4, &ring);
     io::write_all(1, b"saved FC 63 F0, 5 by 4, at 0 0\n");
-    show(&fb, 0, 6, 0, 5);
-    paint_packed(&mut fb, 238, 0, 5, 4, &ring);
+    show(&framebuffer, 0, 6, 0, 5);
+    paint_packed(&mut framebuffer, 238, 0, 5, 4, &ring);
     io::write_all(1, b"the same at 238 0, from column 236\n");
-    show(&fb, 236, 240, 0, 4);
+    show(&framebuffer, 236, 240, 0, 4);
 }
 
 fn in_line() {
-    let mut fb = [0u8; LENGTH];
-    paint_inline(&mut fb, 1, 0, 5, 3, 0, 0xff);
-    paint_inline(&mut fb, 1, 0, 5, 3, 1, 0x8f);
-    paint_inline(&mut fb, 1, 0, 5, 3, 2, 0x8f);
-    paint_inline(&mut fb, 1, 0, 5, 3, 3, 0xff);
+    let mut framebuffer = [0u8; LENGTH];
+    paint_inline(&mut framebuffer, 1, 0, 5, 3, 0, 0xff);
+    paint_inline(&mut framebuffer, 1, 0, 5, 3, 1, 0x8f);
+    paint_inline(&mut framebuffer, 1, 0, 5, 3, 2, 0x8f);
+    paint_inline(&mut framebuffer, 1, 0, 5, 3, 3, 0xff);
     io::write_all(1, b"in line FF 8F 8F FF for 1 0 5 3\n");
-    show(&fb, 0, 10, 0, 5);
-    clear(&mut fb);
-    paint_inline(&mut fb, 0, 0, 8, 1, 0, 0x80);
-    paint_inline(&mut fb, 0, 0, 8, 1, 1, 0x80);
-    paint_inline(&mut fb, 0, 0, 8, 1, 2, 0x01);
-    paint_inline(&mut fb, 0, 0, 8, 1, 3, 0x7f);
+    show(&framebuffer, 0, 10, 0, 5);
+    clear(&mut framebuffer);
+    paint_inline(&mut framebuffer, 0, 0, 8, 1, 0, 0x80);
+    paint_inline(&mut framebuffer, 0, 0, 8, 1, 1, 0x80);
+    paint_inline(&mut framebuffer, 0, 0, 8, 1, 2, 0x01);
+    paint_inline(&mut framebuffer, 0, 0, 8, 1, 3, 0x7f);
     io::write_all(1, b"in line 80 80 01 7F for 0 0 8 1\n");
-    show(&fb, 0, 10, 0, 2);
+    show(&framebuffer, 0, 10, 0, 2);
 }
 
 fn scrolls() {
-    let mut fb = [0u8; LENGTH];
-    draw_line(&mut fb, 0, 0, 2, 2, Colour::BLACK);
-    plot(&mut fb, 3, 63, Colour::BLACK);
-    scroll_up(&mut fb, 1);
+    let mut framebuffer = [0u8; LENGTH];
+    draw_line(&mut framebuffer, 0, 0, 2, 2, Colour::BLACK);
+    plot(&mut framebuffer, 3, 63, Colour::BLACK);
+    scroll_up(&mut framebuffer, 1);
     io::write_all(1, b"line 0 0 2 2 scrolled up by one row\n");
-    show(&fb, 0, 4, 0, 3);
+    show(&framebuffer, 0, 4, 0, 3);
     io::write_all(1, b"and pixel 3 63, from row 61\n");
-    show(&fb, 0, 4, 61, 64);
-    scroll_up(&mut fb, 300);
+    show(&framebuffer, 0, 4, 61, 64);
+    scroll_up(&mut framebuffer, 300);
     io::write_all(1, b"and by 300\n");
-    show(&fb, 0, 4, 0, 1);
-    show(&fb, 0, 4, 62, 63);
+    show(&framebuffer, 0, 4, 0, 1);
+    show(&framebuffer, 0, 4, 62, 63);
 }
 
 fn main() {

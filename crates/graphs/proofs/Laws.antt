@@ -16,21 +16,21 @@ use Rattle.state.specs.declared.State.{State}
 use Rattle.state.specs.State.{barOf, strip, barAt, stripAt}
 use Rattle.rules.specs.World.{world, panel, quietly, refused}
 use Rattle.rules.specs.Bars.{apart, setUpBar, writeBar, setUpStrip, shiftStrip}
-use Rattle.graphs.specs.Graphs.{onScreenOf, withBarOf, withStripOf}
+use Rattle.graphs.specs.Graphs.{inBoundsOf, withBarOf, withStripOf}
 
 -- ---- the tests
 
 module _ (h x1 y1 x2 y2 : ℕ) where
-  pub left-off : width ≤ x1 → false ≡ onScreenOf h x1 y1 x2 y2
+  pub left-off : width ≤ x1 → false ≡ inBoundsOf h x1 y1 x2 y2
   left-off a = rw (le-ltb x1 width a)
 
-  pub right-off : x1 < width → width ≤ x2 → false ≡ onScreenOf h x1 y1 x2 y2
+  pub right-off : x1 < width → width ≤ x2 → false ≡ inBoundsOf h x1 y1 x2 y2
   right-off a b = rw (lt-ltb x1 width a, le-ltb x2 width b)
 
-  pub top-off : x1 < width → x2 < width → h ≤ y1 → false ≡ onScreenOf h x1 y1 x2 y2
+  pub top-off : x1 < width → x2 < width → h ≤ y1 → false ≡ inBoundsOf h x1 y1 x2 y2
   top-off a b d = rw (lt-ltb x1 width a, lt-ltb x2 width b, le-ltb y1 h d)
 
-  pub bottom-is : x1 < width → x2 < width → y1 < h → ltb y2 h ≡ onScreenOf h x1 y1 x2 y2
+  pub bottom-is : x1 < width → x2 < width → y1 < h → ltb y2 h ≡ inBoundsOf h x1 y1 x2 y2
   bottom-is a b d = rw (lt-ltb x1 width a, lt-ltb x2 width b, lt-ltb y1 h d)
 
 pub apart-not : (x1 y1 x2 y2 : ℕ) → x2 ≤ x1 → false ≡ apart x1 y1 x2 y2
@@ -50,16 +50,16 @@ module _ (g s : List ℕ) (st : State) (h n i k x1 y1 x2 y2 : ℕ) (tall : heigh
   unfolding setUpBar
   bar-20 a b = rw (lt-leb 16 n (omega arith), le-leb 4 k b)
 
-  pub bar-17 : (t : Bool) → i < 16 → k < 4 → t ≡ onScreenOf h x1 y1 x2 y2 → not t ≡ true → setUpBar (world g s st) n k x1 y1 x2 y2 ≡ refused 17 []
+  pub bar-17 : (t : Bool) → i < 16 → k < 4 → t ≡ inBoundsOf h x1 y1 x2 y2 → not t ≡ true → setUpBar (world g s st) n k x1 y1 x2 y2 ≡ refused 17 []
   unfolding setUpBar
   bar-17 t a b d e = rw (lt-leb 16 n (omega arith), lt-leb 4 k b, tall, ← d, e)
 
-  pub bar-18 : (t u : Bool) → i < 16 → k < 4 → t ≡ onScreenOf h x1 y1 x2 y2 → not t ≡ false → u ≡ apart x1 y1 x2 y2 → not u ≡ true
+  pub bar-18 : (t u : Bool) → i < 16 → k < 4 → t ≡ inBoundsOf h x1 y1 x2 y2 → not t ≡ false → u ≡ apart x1 y1 x2 y2 → not u ≡ true
       → setUpBar (world g s st) n k x1 y1 x2 y2 ≡ refused 18 []
   unfolding setUpBar
   bar-18 t u a b d e f o = rw (lt-leb 16 n (omega arith), lt-leb 4 k b, tall, ← d, e, ← f, o)
 
-  pub bar-done : (t u : Bool) → i < 16 → k < 4 → t ≡ onScreenOf h x1 y1 x2 y2 → not t ≡ false → u ≡ apart x1 y1 x2 y2 → not u ≡ false
+  pub bar-done : (t u : Bool) → i < 16 → k < 4 → t ≡ inBoundsOf h x1 y1 x2 y2 → not t ≡ false → u ≡ apart x1 y1 x2 y2 → not u ≡ false
       → setUpBar (world g s st) n k x1 y1 x2 y2 ≡ quietly (world g s (withBarOf st i (barOf k x1 y1 x2 y2 0)))
   unfolding setUpBar
   bar-done t u a b d e f o = rw (lt-leb 16 n (omega arith), lt-leb 4 k b, tall, ← d, e, ← f, o, number)
@@ -68,16 +68,16 @@ module _ (g s : List ℕ) (st : State) (h n i k x1 y1 x2 y2 : ℕ) (tall : heigh
   unfolding setUpStrip
   strip-19 a = rw (le-leb 8 n (omega arith))
 
-  pub strip-17 : (t : Bool) → i < 8 → t ≡ onScreenOf h x1 y1 x2 y2 → not t ≡ true → setUpStrip (world g s st) n x1 y1 x2 y2 ≡ refused 17 []
+  pub strip-17 : (t : Bool) → i < 8 → t ≡ inBoundsOf h x1 y1 x2 y2 → not t ≡ true → setUpStrip (world g s st) n x1 y1 x2 y2 ≡ refused 17 []
   unfolding setUpStrip
   strip-17 t a d e = rw (lt-leb 8 n (omega arith), tall, ← d, e)
 
-  pub strip-18 : (t u : Bool) → i < 8 → t ≡ onScreenOf h x1 y1 x2 y2 → not t ≡ false → u ≡ apart x1 y1 x2 y2 → not u ≡ true
+  pub strip-18 : (t u : Bool) → i < 8 → t ≡ inBoundsOf h x1 y1 x2 y2 → not t ≡ false → u ≡ apart x1 y1 x2 y2 → not u ≡ true
       → setUpStrip (world g s st) n x1 y1 x2 y2 ≡ refused 18 []
   unfolding setUpStrip
   strip-18 t u a d e f o = rw (lt-leb 8 n (omega arith), tall, ← d, e, ← f, o)
 
-  pub strip-done : (t u : Bool) → i < 8 → t ≡ onScreenOf h x1 y1 x2 y2 → not t ≡ false → u ≡ apart x1 y1 x2 y2 → not u ≡ false
+  pub strip-done : (t u : Bool) → i < 8 → t ≡ inBoundsOf h x1 y1 x2 y2 → not t ≡ false → u ≡ apart x1 y1 x2 y2 → not u ≡ false
       → setUpStrip (world g s st) n x1 y1 x2 y2 ≡ quietly (world g s (withStripOf st i (strip true x1 y1 x2 y2)))
   unfolding setUpStrip
   strip-done t u a d e f o = rw (lt-leb 8 n (omega arith), tall, ← d, e, ← f, o, number)

@@ -1,4 +1,4 @@
--- A rectangle on a screen of h rows, and a state with one bar or strip put anew.
+-- A rectangle on a framebuffer of h rows, and a state with one bar or strip put anew.
 -- Assumes nothing.
 use mathlib.Core.Bool.{Bool, true, _&&_}
 use Prim.Native.Nat.{ℕ}
@@ -10,8 +10,8 @@ use Rattle.state.specs.declared.Strip.{Strip}
 use Rattle.state.specs.declared.State.{State}
 use Rattle.state.specs.State.{state, barSlot, withBars, withStrips}
 
-abbrev pub onScreenOf : ℕ → ℕ → ℕ → ℕ → ℕ → Bool
-onScreenOf h x1 y1 x2 y2 = ltb x1 width && ltb x2 width && ltb y1 h && ltb y2 h
+abbrev pub inBoundsOf : ℕ → ℕ → ℕ → ℕ → ℕ → Bool
+inBoundsOf h x1 y1 x2 y2 = ltb x1 width && ltb x2 width && ltb y1 h && ltb y2 h
 
 abbrev pub withBarOf : State → ℕ → Bar → State
 withBarOf s i b = state (s .port) (withBars (s .panel) (set (s .panel .bars) i (barSlot true b)))

@@ -1,15 +1,15 @@
 // Commands of bar graphs and strip charts.
 use bar_graph::Bar;
 use canvas::WIDTH;
-use outcome::CORNERS;
-use outcome::NOT_SET_UP;
-use outcome::NUMBER_RANGE;
-use outcome::OFF_GLASS;
 use outcome::Outcome;
-use outcome::UNKNOWN_TYPE;
 use outcome::done;
 use outcome::refused;
 use outcome::with_panel;
+use refusals::CORNERS_OUT_OF_ORDER;
+use refusals::NOT_SET_UP;
+use refusals::NUMBER_OUT_OF_RANGE;
+use refusals::OUT_OF_BOUNDS;
+use refusals::UNKNOWN_TYPE;
 use state::BARS;
 use state::BarSlot;
 use state::STRIPS;
@@ -21,7 +21,7 @@ ghost use Prim.Native.Nat.{_<_};
 ghost use Rattle.state.specs.State.{barSlot};
 ghost use Rattle.rules.specs.Bars.{apart, setUpBar, writeBar, setUpStrip, shiftStrip};
 ghost use Rattle.outcome.specs.Contract.{SetsOn, Paints};
-ghost use Rattle.graphs.specs.Graphs.{onScreenOf, withBarOf, withStripOf};
+ghost use Rattle.graphs.specs.Graphs.{inBoundsOf, withBarOf, withStripOf};
 
 // The types of bars are numbers below this.
 const TYPES: u8 = 4;
@@ -35,8 +35,8 @@ fn wide(x: u8) -> usize
     x as usize
 }
 
-fn is_on_screen(height: u8, x1: u8, y1: u8, x2: u8, y2: u8) -> bool
-    ensures { λ r. ⌜ r ≡ onScreenOf height x1 y1 x2 y2 ⌝ }
+fn is_in_bounds(height: u8, x1: u8, y1: u8, x2: u8, y2: u8) -> bool
+    ensures { λ r. ⌜ r ≡ inBoundsOf height x1 y1 x2 y2 ⌝ }
 {
     if x1 as u16 >= WIDTH {
         return false;
@@ -95,16 +95,16 @@ pub fn set_up_bar(
 {
     let i = wide(number);
     if i >= BARS {
-        return refused(state, NUMBER_RANGE);
+        return refused(state, NUMBER_OUT_OF_RANGE);
     }
     if kind >= TYPES {
         return refused(state, UNKNOWN_TYPE);
     }
-    if !is_on_screen(height, x1, y1, x2, y2) {
-        return refused(state, OFF_GLASS);
+    if !is_in_bounds(height, x1, y1, x2, y2) {
+        return refused(state, OUT_OF_BOUNDS);
     }
     if !is_apart(x1, y1, x2, y2) {
-        return refused(state, CORNERS);
+        return refused(state, CORNERS_OUT_OF_ORDER);
     }
     let bar = Bar {
         kind: kind,
@@ -117,12 +117,12 @@ pub fn set_up_bar(
     done(with_bar(state, i, bar))
 }
 
-pub fn write_bar(screen: &mut [u8], state: State, number: u8, value: u8) -> Outcome
-    ensures { λ r. ⌜ Paints (λ w. writeBar w number value) state (now (screen .entry)) (now (screen .exit)) r ⌝ }
+pub fn write_bar(framebuffer: &mut [u8], state: State, number: u8, value: u8) -> Outcome
+    ensures { λ r. ⌜ Paints (λ w. writeBar w number value) state (now (framebuffer .entry)) (now (framebuffer .exit)) r ⌝ }
 {
     let i = wide(number);
     if i >= BARS {
-        return refused(state, NUMBER_RANGE);
+        return refused(state, NUMBER_OUT_OF_RANGE);
     }
     let panel = state.panel;
     let slot = panel.bars[i];
@@ -130,7 +130,7 @@ pub fn write_bar(screen: &mut [u8], state: State, number: u8, value: u8) -> Outc
         return refused(state, NOT_SET_UP);
     }
     let bar = slot.bar;
-    let written = bar_graph::write_bar(screen, bar, value);
+    let written = bar_graph::write_bar(framebuffer, bar, value);
     done(with_bar(state, i, written))
 }
 
@@ -139,13 +139,13 @@ pub fn set_up_strip(state: State, height: u8, number: u8, x1: u8, y1: u8, x2: u8
 {
     let i = wide(number);
     if i >= STRIPS {
-        return refused(state, NUMBER_RANGE);
+        return refused(state, NUMBER_OUT_OF_RANGE);
     }
-    if !is_on_screen(height, x1, y1, x2, y2) {
-        return refused(state, OFF_GLASS);
+    if !is_in_bounds(height, x1, y1, x2, y2) {
+        return refused(state, OUT_OF_BOUNDS);
     }
     if !is_apart(x1, y1, x2, y2) {
-        return refused(state, CORNERS);
+        return refused(state, CORNERS_OUT_OF_ORDER);
     }
     let strip = Strip {
         on: true,
@@ -158,12 +158,12 @@ pub fn set_up_strip(state: State, height: u8, number: u8, x1: u8, y1: u8, x2: u8
 }
 
 // The low seven bits are the number, the highest one the way.
-pub fn shift_strip(screen: &mut [u8], state: State, byte: u8) -> Outcome
-    ensures { λ r. ⌜ Paints (λ w. shiftStrip w byte) state (now (screen .entry)) (now (screen .exit)) r ⌝ }
+pub fn shift_strip(framebuffer: &mut [u8], state: State, byte: u8) -> Outcome
+    ensures { λ r. ⌜ Paints (λ w. shiftStrip w byte) state (now (framebuffer .entry)) (now (framebuffer .exit)) r ⌝ }
 {
     let i = wide(byte % RIGHT);
     if i >= STRIPS {
-        return refused(state, NUMBER_RANGE);
+        return refused(state, NUMBER_OUT_OF_RANGE);
     }
     let panel = state.panel;
     let strip = panel.strips[i];
@@ -171,7 +171,7 @@ pub fn shift_strip(screen: &mut [u8], state: State, byte: u8) -> Outcome
         return refused(state, NOT_SET_UP);
     }
     strip_chart::shift_strip(
-        screen,
+        framebuffer,
         strip.x1,
         strip.y1,
         strip.x2,

@@ -1,4 +1,4 @@
--- The screen's height, a state that gathers arguments, and the test of a saved bitmap's number.
+-- The framebuffer's height, a state that gathers arguments, and the test of a saved bitmap's number.
 -- Assumes nothing.
 use mathlib.Core.Path.{_≡_}
 use mathlib.Core.List.{List}

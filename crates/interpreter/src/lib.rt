@@ -1,13 +1,13 @@
 // One byte: what it comes to in each phase, and every command obeyed.
 use directory::BITMAP;
 use directory::FONT;
-use outcome::NO_FILE;
 use outcome::Outcome;
-use outcome::UNKNOWN_CODE;
 use outcome::done;
 use outcome::in_phase;
 use outcome::refused;
 use outcome::with_port;
+use refusals::NO_SUCH_FILE;
+use refusals::UNKNOWN_COMMAND;
 use state::ARGUMENTS;
 use state::Command;
 use state::Phase;
@@ -44,17 +44,17 @@ fn size_of(low: u8, high: u8) -> u16
 fn obey(
     command: Command,
     a: [u8; ARGUMENTS],
-    screen: &mut [u8],
+    framebuffer: &mut [u8],
     store: &mut [u8],
     state: State,
     height: u8,
 ) -> Outcome
-    requires { ⌜ Tall (now screen) height ⌝ }
-    ensures { λ r. ⌜ Came (world (now (screen .entry)) (now (store .entry)) state) (obey command a (world (now (screen .entry)) (now (store .entry)) state)) (world (now (screen .exit)) (now (store .exit)) (r .state)) (sentBy (r .reply)) ⌝ }
+    requires { ⌜ Tall (now framebuffer) height ⌝ }
+    ensures { λ r. ⌜ Came (world (now (framebuffer .entry)) (now (store .entry)) state) (obey command a (world (now (framebuffer .entry)) (now (store .entry)) state)) (world (now (framebuffer .exit)) (now (store .exit)) (r .state)) (sentBy (r .reply)) ⌝ }
 {
     match command {
-        Command::Unknown => refused(state, UNKNOWN_CODE),
-        Command::Clear => drawing::clear(screen, state),
+        Command::Unknown => refused(state, UNKNOWN_COMMAND),
+        Command::Clear => drawing::clear(framebuffer, state),
         Command::Home => text::home(state),
         Command::SetPoint => text::set_point(state, a[0], a[1]),
         Command::SetPlace => text::set_place(store, state, height, a[0], a[1]),
@@ -65,23 +65,23 @@ fn obey(
         Command::ChooseFont => text::choose_font(store, state, height, a[0]),
         Command::SetMetrics => text::set_metrics(state, a[0], a[1], a[2], a[3], a[4]),
         Command::SetColour => drawing::set_colour(state, a[0]),
-        Command::DrawPixel => drawing::draw_pixel(screen, state, a[0], a[1]),
-        Command::DrawLine => drawing::draw_line(screen, state, a[0], a[1], a[2], a[3]),
+        Command::DrawPixel => drawing::draw_pixel(framebuffer, state, a[0], a[1]),
+        Command::DrawLine => drawing::draw_line(framebuffer, state, a[0], a[1], a[2], a[3]),
         Command::ContinueLine => {
             let from = state.port.drawing;
-            drawing::draw_line(screen, state, from.x, from.y, a[0], a[1])
+            drawing::draw_line(framebuffer, state, from.x, from.y, a[0], a[1])
         }
-        Command::DrawFrame => drawing::draw_frame(screen, state, a[0], a[1], a[2], a[3], a[4]),
+        Command::DrawFrame => drawing::draw_frame(framebuffer, state, a[0], a[1], a[2], a[3], a[4]),
         Command::FillRectangle => {
-            drawing::fill_rectangle(screen, state, a[0], a[1], a[2], a[3], a[4])
+            drawing::fill_rectangle(framebuffer, state, a[0], a[1], a[2], a[3], a[4])
         }
         Command::SetUpBar => {
             graphs::set_up_bar(state, height, a[0], a[1], a[2], a[3], a[4], a[5])
         }
-        Command::WriteBar => graphs::write_bar(screen, state, a[0], a[1]),
+        Command::WriteBar => graphs::write_bar(framebuffer, state, a[0], a[1]),
         Command::SetUpStrip => graphs::set_up_strip(state, height, a[0], a[1], a[2], a[3], a[4]),
-        Command::ShiftStrip => graphs::shift_strip(screen, state, a[0]),
-        Command::ShowBitmap => pictures::show_bitmap(screen, store, state, a[0], a[1], a[2]),
+        Command::ShiftStrip => graphs::shift_strip(framebuffer, state, a[0]),
+        Command::ShowBitmap => pictures::show_bitmap(framebuffer, store, state, a[0], a[1], a[2]),
         Command::DrawInline => pictures::begin_inline(state, a[0], a[1], a[2], a[3]),
         Command::UploadFont => {
             storage::begin_upload(store, state, FONT, a[0], size_of(a[1], a[2]))
@@ -101,14 +101,20 @@ fn obey(
 }
 
 // A command's code: without arguments it is obeyed, else they are gathered.
-fn take_code(screen: &mut [u8], store: &mut [u8], state: State, height: u8, byte: u8) -> Outcome
-    requires { ⌜ Tall (now screen) height ⌝ }
-    ensures { λ r. ⌜ Came (world (now (screen .entry)) (now (store .entry)) state) (code (world (now (screen .entry)) (now (store .entry)) state) byte) (world (now (screen .exit)) (now (store .exit)) (r .state)) (sentBy (r .reply)) ⌝ }
+fn take_code(
+    framebuffer: &mut [u8],
+    store: &mut [u8],
+    state: State,
+    height: u8,
+    byte: u8,
+) -> Outcome
+    requires { ⌜ Tall (now framebuffer) height ⌝ }
+    ensures { λ r. ⌜ Came (world (now (framebuffer .entry)) (now (store .entry)) state) (code (world (now (framebuffer .entry)) (now (store .entry)) state) byte) (world (now (framebuffer .exit)) (now (store .exit)) (r .state)) (sentBy (r .reply)) ⌝ }
 {
     let command = command_of(byte);
     if arguments_of(command) == 0 {
         let outside = in_phase(state, Phase::Idle);
-        return obey(command, [0; ARGUMENTS], screen, store, outside, height);
+        return obey(command, [0; ARGUMENTS], framebuffer, store, outside, height);
     }
     done(in_phase(state, Phase::Gathering { code: byte, got: 0 }))
 }
@@ -160,7 +166,7 @@ fn gathering(state: State, code: u8, got: u8, args: [u8; ARGUMENTS]) -> State
 
 // An argument: the last one has its command obeyed.
 fn take_argument(
-    screen: &mut [u8],
+    framebuffer: &mut [u8],
     store: &mut [u8],
     state: State,
     height: u8,
@@ -168,11 +174,11 @@ fn take_argument(
     got: u8,
     byte: u8,
 ) -> Outcome
-    requires { ⌜ (Tall (now screen) height) × (soundGathering code got ≡ true) ⌝ }
-    ensures { λ r. ⌜ Came (world (now (screen .entry)) (now (store .entry)) state) (argument (world (now (screen .entry)) (now (store .entry)) state) code got byte) (world (now (screen .exit)) (now (store .exit)) (r .state)) (sentBy (r .reply)) ⌝ }
+    requires { ⌜ (Tall (now framebuffer) height) × (soundGathering code got ≡ true) ⌝ }
+    ensures { λ r. ⌜ Came (world (now (framebuffer .entry)) (now (store .entry)) state) (argument (world (now (framebuffer .entry)) (now (store .entry)) state) code got byte) (world (now (framebuffer .exit)) (now (store .exit)) (r .state)) (sentBy (r .reply)) ⌝ }
 {
     if is_no_bitmap(store, code, got, byte) {
-        return refused(state, NO_FILE);
+        return refused(state, NO_SUCH_FILE);
     }
     let command = command_of(code);
     let args = gathered(state, got, byte);
@@ -180,32 +186,32 @@ fn take_argument(
         return done(gathering(state, code, got + 1, args));
     }
     let outside = in_phase(state, Phase::Idle);
-    obey(command, args, screen, store, outside, height)
+    obey(command, args, framebuffer, store, outside, height)
 }
 
 // Outside a command 254 begins one, and any other byte is a character.
-fn take_alone(screen: &mut [u8], store: &[u8], state: State, height: u8, byte: u8) -> Outcome
-    requires { ⌜ Tall (now screen) height ⌝ }
-    ensures { λ r. ⌜ Came (world (now (screen .entry)) (now (store .entry)) state) (alone (world (now (screen .entry)) (now (store .entry)) state) byte) (world (now (screen .exit)) (now (store .entry)) (r .state)) (sentBy (r .reply)) ⌝ }
+fn take_alone(framebuffer: &mut [u8], store: &[u8], state: State, height: u8, byte: u8) -> Outcome
+    requires { ⌜ Tall (now framebuffer) height ⌝ }
+    ensures { λ r. ⌜ Came (world (now (framebuffer .entry)) (now (store .entry)) state) (alone (world (now (framebuffer .entry)) (now (store .entry)) state) byte) (world (now (framebuffer .exit)) (now (store .entry)) (r .state)) (sentBy (r .reply)) ⌝ }
 {
     if byte == PREFIX {
         return done(in_phase(state, Phase::Prefix));
     }
-    text::draw_character(screen, store, state, height, byte)
+    text::draw_character(framebuffer, store, state, height, byte)
 }
 
 // A byte of the stream.
-pub fn step(screen: &mut [u8], store: &mut [u8], state: State, height: u8, byte: u8) -> Outcome
-    requires { ⌜ (Tall (now screen) height) × (soundPhase (state .port .phase) ≡ true) ⌝ }
-    ensures { λ r. ⌜ Came (world (now (screen .entry)) (now (store .entry)) state) (outcome (world (now (screen .entry)) (now (store .entry)) state) byte) (world (now (screen .exit)) (now (store .exit)) (r .state)) (sentBy (r .reply)) ⌝ }
+pub fn step(framebuffer: &mut [u8], store: &mut [u8], state: State, height: u8, byte: u8) -> Outcome
+    requires { ⌜ (Tall (now framebuffer) height) × (soundPhase (state .port .phase) ≡ true) ⌝ }
+    ensures { λ r. ⌜ Came (world (now (framebuffer .entry)) (now (store .entry)) state) (outcome (world (now (framebuffer .entry)) (now (store .entry)) state) byte) (world (now (framebuffer .exit)) (now (store .exit)) (r .state)) (sentBy (r .reply)) ⌝ }
 {
     let port = state.port;
     let phase = port.phase;
     match phase {
-        Phase::Idle => take_alone(screen, store, state, height, byte),
-        Phase::Prefix => take_code(screen, store, state, height, byte),
+        Phase::Idle => take_alone(framebuffer, store, state, height, byte),
+        Phase::Prefix => take_code(framebuffer, store, state, height, byte),
         Phase::Gathering { code, got } => {
-            take_argument(screen, store, state, height, code, got, byte)
+            take_argument(framebuffer, store, state, height, code, got, byte)
         }
         Phase::Inline {
             x1,
@@ -213,7 +219,7 @@ pub fn step(screen: &mut [u8], store: &mut [u8], state: State, height: u8, byte:
             x2,
             y2,
             done,
-        } => pictures::inline_data(screen, state, x1, y1, x2, y2, done, byte),
+        } => pictures::inline_data(framebuffer, state, x1, y1, x2, y2, done, byte),
         Phase::Upload {
             kind,
             number,

@@ -93,43 +93,43 @@ fn walk_start(a1: u8, a2: u8, b1: u8) -> Walker
 }
 
 // The pixel that the walker has come to; `steep` says that its major axis is that of the rows.
-fn plot_walker(fb: &mut [u8], walker: Walker, steep: bool, c: Colour)
+fn plot_walker(framebuffer: &mut [u8], walker: Walker, steep: bool, c: Colour)
     requires { ⌜ WalkerInRange walker ⌝ }
-    ensures { λ _. ⌜ now (fb .exit) ≡ fill (point (columnOf steep walker) (rowOf steep walker)) (c .black) (now (fb .entry)) ⌝ }
+    ensures { λ _. ⌜ now (framebuffer .exit) ≡ fill (point (columnOf steep walker) (rowOf steep walker)) (c .black) (now (framebuffer .entry)) ⌝ }
 {
     let major = walker.major as u16;
     let minor = walker.minor as u16;
     if steep {
-        canvas::plot(fb, minor, major, c);
+        canvas::plot(framebuffer, minor, major, c);
     } else {
-        canvas::plot(fb, major, minor, c);
+        canvas::plot(framebuffer, major, minor, c);
     }
 }
 
 // The whole line, its axes by their roles: from a1 to a2 on the major one, and from b1 to b2 on the minor.
-fn trace(fb: &mut [u8], a1: u8, a2: u8, b1: u8, b2: u8, steep: bool, c: Colour)
+fn trace(framebuffer: &mut [u8], a1: u8, a2: u8, b1: u8, b2: u8, steep: bool, c: Colour)
     requires { ⌜ distance b1 b2 ≤ distance a1 a2 ⌝ }
-    ensures { λ _. ⌜ now (fb .exit) ≡ fill (traced steep a1 a2 b1 b2) (c .black) (now (fb .entry)) ⌝ }
+    ensures { λ _. ⌜ now (framebuffer .exit) ≡ fill (traced steep a1 a2 b1 b2) (c .black) (now (framebuffer .entry)) ⌝ }
 {
     let slope = slope_of(a1, a2, b1, b2);
     let run = distance(a1, a2);
     let mut walker = walk_start(a1, a2, b1);
     let mut i = 0u8;
     while i < run {
-        plot_walker(fb, walker, steep, c);
+        plot_walker(framebuffer, walker, steep, c);
         walker = step(walker, slope);
         i += 1;
     }
-    plot_walker(fb, walker, steep, c);
+    plot_walker(framebuffer, walker, steep, c);
 }
 
 // The line from (x1, y1) to (x2, y2), both in it; beyond the framebuffer nothing.
-pub fn draw_line(fb: &mut [u8], x1: u8, y1: u8, x2: u8, y2: u8, c: Colour)
-    ensures { λ _. ⌜ now (fb .exit) ≡ fill (line x1 y1 x2 y2) (c .black) (now (fb .entry)) ⌝ }
+pub fn draw_line(framebuffer: &mut [u8], x1: u8, y1: u8, x2: u8, y2: u8, c: Colour)
+    ensures { λ _. ⌜ now (framebuffer .exit) ≡ fill (line x1 y1 x2 y2) (c .black) (now (framebuffer .entry)) ⌝ }
 {
     if distance(y1, y2) <= distance(x1, x2) {
-        trace(fb, x1, x2, y1, y2, false, c);
+        trace(framebuffer, x1, x2, y1, y2, false, c);
     } else {
-        trace(fb, y1, y2, x1, x2, true, c);
+        trace(framebuffer, y1, y2, x1, x2, true, c);
     }
 }

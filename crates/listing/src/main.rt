@@ -18,12 +18,12 @@ const ROOM: usize = 8192;
 const SHOWN: usize = 4096;
 
 // The first black column from x on, or the width.
-fn next_black(glass: &[u8], x: u16, y: u16) -> u16
+fn next_black(framebuffer: &[u8], x: u16, y: u16) -> u16
     ensures { λ r. ⌜ x ≤ r ⌝ }
 {
     let mut next = x;
     while next < WIDTH {
-        if is_black(glass, next, y) {
+        if is_black(framebuffer, next, y) {
             return next;
         }
         next += 1;
@@ -32,12 +32,12 @@ fn next_black(glass: &[u8], x: u16, y: u16) -> u16
 }
 
 // The column behind the black run that goes on from x.
-fn run_end(glass: &[u8], x: u16, y: u16) -> u16
+fn run_end(framebuffer: &[u8], x: u16, y: u16) -> u16
     ensures { λ r. ⌜ x ≤ r ⌝ }
 {
     let mut end = x;
     while end < WIDTH {
-        if !is_black(glass, end, y) {
+        if !is_black(framebuffer, end, y) {
             return end;
         }
         end += 1;
@@ -52,26 +52,26 @@ fn show_run(first: u16, last: u16) {
     io::print_decimal(1, last as u64);
 }
 
-fn show_row(glass: &[u8], y: u16) {
-    let mut x = next_black(glass, 0, y);
+fn show_row(framebuffer: &[u8], y: u16) {
+    let mut x = next_black(framebuffer, 0, y);
     if x >= WIDTH {
         return;
     }
     io::print_decimal(1, y as u64);
     io::write_all(1, b":");
     while x < WIDTH {
-        let end = run_end(glass, x + 1, y);
+        let end = run_end(framebuffer, x + 1, y);
         show_run(x, end - 1);
-        x = next_black(glass, end, y);
+        x = next_black(framebuffer, end, y);
     }
     io::write_all(1, b"\n");
 }
 
-fn show_glass(glass: &[u8]) {
+fn show_framebuffer(framebuffer: &[u8]) {
     io::write_all(1, b"glass 240 64\n");
     let mut y = 0;
     while y < HEIGHT {
-        show_row(glass, y);
+        show_row(framebuffer, y);
         y += 1;
     }
 }
@@ -121,7 +121,7 @@ fn keep(shown: &mut [u8], count: usize, replies: &[u8]) -> usize
 
 // Feeds a piece; its replies are put with those that are listed.
 fn feed(
-    glass: &mut [u8],
+    framebuffer: &mut [u8],
     store: &mut [u8],
     state: &mut [u8],
     piece: &[u8],
@@ -135,7 +135,7 @@ fn feed(
     let mut consumed = 0usize;
     let mut replied = 0usize;
     display_feed(
-        glass,
+        framebuffer,
         store,
         state,
         piece,
@@ -156,7 +156,7 @@ struct Turn {
 
 // Reads a piece and feeds it; the answer says whether there may be more.
 fn obey_some(
-    glass: &mut [u8],
+    framebuffer: &mut [u8],
     store: &mut [u8],
     state: &mut [u8],
     shown: &mut [u8],
@@ -175,18 +175,18 @@ fn obey_some(
     }
     Turn {
         more: true,
-        count: feed(glass, store, state, &piece[..n], shown, count),
+        count: feed(framebuffer, store, state, &piece[..n], shown, count),
     }
 }
 
 // A proved loop has to end, and nothing says that the input does: so it counts down from a number that no run uses up.
-fn obey_all(glass: &mut [u8], store: &mut [u8], state: &mut [u8], shown: &mut [u8]) -> usize
+fn obey_all(framebuffer: &mut [u8], store: &mut [u8], state: &mut [u8], shown: &mut [u8]) -> usize
     ensures { λ r. ⌜ r ≤ length (now (shown .entry)) ⌝ }
 {
     let mut turns = u64::MAX;
     let mut count = 0;
     while turns > 0 {
-        let turn = obey_some(glass, store, state, shown, count);
+        let turn = obey_some(framebuffer, store, state, shown, count);
         count = turn.count;
         if !turn.more {
             return count;
@@ -197,14 +197,14 @@ fn obey_all(glass: &mut [u8], store: &mut [u8], state: &mut [u8], shown: &mut [u
 }
 
 fn main() {
-    let mut glass = [0u8; LENGTH];
+    let mut framebuffer = [0u8; LENGTH];
     let mut store = [0u8; STORE_MOST];
     let mut state = [0u8; record::RECORD];
     let mut queue = [0u8; queue::RECORD];
-    display_start(&mut glass, &mut store, &mut state, &mut queue);
+    display_start(&mut framebuffer, &mut store, &mut state, &mut queue);
     let mut shown = [0u8; SHOWN];
-    let count = obey_all(&mut glass, &mut store, &mut state, &mut shown);
-    show_glass(&glass);
+    let count = obey_all(&mut framebuffer, &mut store, &mut state, &mut shown);
+    show_framebuffer(&framebuffer);
     show_refusals(&state);
     show_replies(&shown[..count]);
 }

@@ -19,11 +19,11 @@ pub record Came (w : World) (o : Ruled) (v : World) (l : List ℕ) : Type 0 wher
 pub record Sets (rule : World → Ruled) (st : State) (r : Outcome) : Type 0 where
   pub came : (g s : List ℕ) → Came (world g s st) (rule (world g s st)) (world g s (r .state)) (sentBy (r .reply))
 
--- lent no memory, and told the screen's height
+-- lent no memory, and told the framebuffer's height
 pub record SetsOn (h : ℕ) (rule : World → Ruled) (st : State) (r : Outcome) : Type 0 where
   pub came : (g s : List ℕ) → height g ≡ h → Came (world g s st) (rule (world g s st)) (world g s (r .state)) (sentBy (r .reply))
 
--- lent the screen g, and leaving it as g'
+-- lent the framebuffer g, and leaving it as g'
 pub record Paints (rule : World → Ruled) (st : State) (g g' : List ℕ) (r : Outcome) : Type 0 where
   pub came : (s : List ℕ) → Came (world g s st) (rule (world g s st)) (world g' s (r .state)) (sentBy (r .reply))
 
@@ -35,14 +35,14 @@ pub record PaintsOn (h : ℕ) (rule : World → Ruled) (st : State) (g g' : List
 pub record Stores (rule : World → Ruled) (st : State) (s s' : List ℕ) (r : Outcome) : Type 0 where
   pub came : (g : List ℕ) → Came (world g s st) (rule (world g s st)) (world g s' (r .state)) (sentBy (r .reply))
 
--- the same, and told the screen's height
+-- the same, and told the framebuffer's height
 pub record StoresOn (h : ℕ) (rule : World → Ruled) (st : State) (s s' : List ℕ) (r : Outcome) : Type 0 where
   pub came : (g : List ℕ) → height g ≡ h → Came (world g s st) (rule (world g s st)) (world g s' (r .state)) (sentBy (r .reply))
 
--- lent the screen, and the store to read
+-- lent the framebuffer, and the store to read
 pub record Shows (rule : World → Ruled) (st : State) (g g' s : List ℕ) (r : Outcome) : Type 0 where
   pub came : Came (world g s st) (rule (world g s st)) (world g' s (r .state)) (sentBy (r .reply))
 
--- the same, and told the screen's height
+-- the same, and told the framebuffer's height
 pub record ShowsOn (h : ℕ) (rule : World → Ruled) (st : State) (g g' s : List ℕ) (r : Outcome) : Type 0 where
   pub came : height g ≡ h → Came (world g s st) (rule (world g s st)) (world g' s (r .state)) (sentBy (r .reply))

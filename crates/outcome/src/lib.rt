@@ -21,35 +21,6 @@ pub struct Outcome {
     pub reply: Reply,
 }
 
-// The refusals of the rules.
-pub const UNKNOWN_CODE: u8 = 16;
-
-pub const OFF_GLASS: u8 = 17;
-
-pub const CORNERS: u8 = 18;
-
-pub const NUMBER_RANGE: u8 = 19;
-
-pub const UNKNOWN_TYPE: u8 = 20;
-
-pub const NOT_SET_UP: u8 = 21;
-
-pub const NO_FILE: u8 = 22;
-
-pub const MALFORMED: u8 = 23;
-
-pub const NO_SPACE: u8 = 24;
-
-pub const NUMBER_IN_USE: u8 = 25;
-
-pub const BROKEN_OFF: u8 = 26;
-
-pub const THRESHOLDS: u8 = 27;
-
-pub const NO_CHARACTER: u8 = 28;
-
-pub const NO_ROOM: u8 = 29;
-
 pub fn one_byte(byte: u8) -> Reply
     ensures { λ r. ⌜ r ≡ oneByte byte ⌝ }
 {

@@ -12,13 +12,13 @@ use fonts::Check;
 use fonts::bitmap_height;
 use fonts::bitmap_width;
 use fonts::check_bitmap;
-use outcome::CORNERS;
-use outcome::MALFORMED;
-use outcome::NO_FILE;
 use outcome::Outcome;
 use outcome::done;
 use outcome::in_phase;
 use outcome::refused;
+use refusals::CORNERS_OUT_OF_ORDER;
+use refusals::MALFORMED_FILE;
+use refusals::NO_SUCH_FILE;
 use state::Phase;
 use state::State;
 use state::inline_bytes;
@@ -29,16 +29,16 @@ ghost use Rattle.rules.specs.Pictures.{bitmapIn, showBitmap, beginInline, inlin
 ghost use Rattle.outcome.specs.Contract.{Sets, Paints, Shows};
 
 // A bitmap from its file, its upper left corner at (x, y).
-fn show_file(screen: &mut [u8], state: State, file: &[u8], x: u8, y: u8) -> Outcome
-    ensures { λ r. ⌜ Paints (λ w. bitmapIn w (now (file .entry)) x y) state (now (screen .entry)) (now (screen .exit)) r ⌝ }
+fn show_file(framebuffer: &mut [u8], state: State, file: &[u8], x: u8, y: u8) -> Outcome
+    ensures { λ r. ⌜ Paints (λ w. bitmapIn w (now (file .entry)) x y) state (now (framebuffer .entry)) (now (framebuffer .exit)) r ⌝ }
 {
     let check = check_bitmap(file);
     let Check::Good = check else {
-        return refused(state, MALFORMED);
+        return refused(state, MALFORMED_FILE);
     };
     let bits = rest(file, BITMAP_HEADER);
     paint_packed(
-        screen,
+        framebuffer,
         x as u16,
         y,
         bitmap_width(file),
@@ -49,14 +49,14 @@ fn show_file(screen: &mut [u8], state: State, file: &[u8], x: u8, y: u8) -> Outc
 }
 
 pub fn show_bitmap(
-    screen: &mut [u8],
+    framebuffer: &mut [u8],
     store: &[u8],
     state: State,
     number: u8,
     x: u8,
     y: u8,
 ) -> Outcome
-    ensures { λ r. ⌜ Shows (λ w. showBitmap w number x y) state (now (screen .entry)) (now (screen .exit)) (now (store .entry)) r ⌝ }
+    ensures { λ r. ⌜ Shows (λ w. showBitmap w number x y) state (now (framebuffer .entry)) (now (framebuffer .exit)) (now (store .entry)) r ⌝ }
 {
     let found = find(store, BITMAP, number);
     let Found::At {
@@ -65,17 +65,17 @@ pub fn show_bitmap(
         size,
     } = found
     else {
-        return refused(state, NO_FILE);
+        return refused(state, NO_SUCH_FILE);
     };
     let file = part(store, start, size);
-    show_file(screen, state, file, x, y)
+    show_file(framebuffer, state, file, x, y)
 }
 
 pub fn begin_inline(state: State, x1: u8, y1: u8, x2: u8, y2: u8) -> Outcome
     ensures { λ r. ⌜ Sets (λ w. beginInline w x1 y1 x2 y2) state r ⌝ }
 {
     if !is_ordered(x1, y1, x2, y2) {
-        return refused(state, CORNERS);
+        return refused(state, CORNERS_OUT_OF_ORDER);
     }
     done(in_phase(
         state,
@@ -91,7 +91,7 @@ pub fn begin_inline(state: State, x1: u8, y1: u8, x2: u8, y2: u8) -> Outcome
 
 // Byte number `came` of the data, painted as it comes.
 pub fn inline_data(
-    screen: &mut [u8],
+    framebuffer: &mut [u8],
     state: State,
     x1: u8,
     y1: u8,
@@ -101,9 +101,9 @@ pub fn inline_data(
     byte: u8,
 ) -> Outcome
     requires { ⌜ soundInline x1 y1 x2 y2 came ≡ true ⌝ }
-    ensures { λ r. ⌜ Paints (λ w. inlineData w x1 y1 x2 y2 came byte) state (now (screen .entry)) (now (screen .exit)) r ⌝ }
+    ensures { λ r. ⌜ Paints (λ w. inlineData w x1 y1 x2 y2 came byte) state (now (framebuffer .entry)) (now (framebuffer .exit)) r ⌝ }
 {
-    paint_inline(screen, x1, y1, x2, y2, came, byte);
+    paint_inline(framebuffer, x1, y1, x2, y2, came, byte);
     let all = inline_bytes(x1, y1, x2, y2);
     if came + 1 < all {
         return done(in_phase(

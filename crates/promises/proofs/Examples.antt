@@ -25,9 +25,9 @@ use Rattle.rules.specs.Files.{beginUpload}
 use Rattle.rules.specs.Settings.{flowOn}
 use Rattle.rules.specs.Step.{obey, code, argument, alone, byPhase, refuse, after, step, replies}
 use Rattle.rules.specs.Calls.{run, said}
-use Rattle.promises.specs.Examples.{Shows, Holds, AllHold, HasAll, byte, white, nothing, table, cornerPixels, beyondGlass, lineDown, lineBack, onePixel, barFromBottom, barFromLeft, barFromRight, letterT, pictureSizes, flowRefused, flowAccepted, uploadFits, uploadTooLarge}
+use Rattle.promises.specs.Examples.{Shows, Holds, AllHold, HasAll, byte, white, nothing, table, cornerPixels, pixelOutOfBounds, lineDown, lineBack, onePixel, barFromBottom, barFromLeft, barFromRight, letterT, pictureSizes, flowRefused, flowAccepted, uploadFits, uploadTooLarge}
 
--- ---- what a painted screen shows
+-- ---- what a painted framebuffer shows
 
 white-shows : Shows white nothing
 unfolding pixel
@@ -65,9 +65,9 @@ corner-pixels : Holds cornerPixels
 unfolding run said step replies after byPhase alone code argument obey commandOf drawPixel within
 corner-pixels = (record { shows = exactly _ (layer (point 239 63) (plain true) (layer (point 0 0) (plain true) white-shows)) refl; has = corner-bytes; refused = refl; reason = refl }, refl)
 
-beyond-glass : Holds beyondGlass
+pixel-out-of-bounds : Holds pixelOutOfBounds
 unfolding run said step replies after byPhase alone code argument obey commandOf drawPixel within
-beyond-glass = (record { shows = exactly _ (layer (point 240 0) (plain true) white-shows) refl; has = tt; refused = refl; reason = refl }, refl)
+pixel-out-of-bounds = (record { shows = exactly _ (layer (point 240 0) (plain true) white-shows) refl; has = tt; refused = refl; reason = refl }, refl)
 
 line-down : Holds lineDown
 unfolding run said step replies after byPhase alone code argument obey commandOf drawLine within some towards rise lineX lineY
@@ -119,4 +119,4 @@ upload-too-large = (record { shows = white-shows; has = tt; refused = refl; reas
 
 -- ALL OF THEM
 pub examples : AllHold table
-examples = (corner-pixels, (beyond-glass, (line-down, (line-back, (one-pixel, (bar-from-bottom, (bar-from-left, (bar-from-right, (letter-t, (picture-sizes, (flow-refused, (flow-accepted, (upload-fits, (upload-too-large, tt))))))))))))))
+examples = (corner-pixels, (pixel-out-of-bounds, (line-down, (line-back, (one-pixel, (bar-from-bottom, (bar-from-left, (bar-from-right, (letter-t, (picture-sizes, (flow-refused, (flow-accepted, (upload-fits, (upload-too-large, tt))))))))))))))

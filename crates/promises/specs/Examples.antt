@@ -21,7 +21,7 @@ pub record Byte : Type 0 where
 pub data Row : Type 0 where
   -- store bytes, stream; exactly the black pixels, bytes of the framebuffer, replies, refusal count, last refusal
   stream : ℕ → List ℕ → Picture → List Byte → List ℕ → ℕ → ℕ → Row
-  -- width, height and bytes of a glyph in the corner of a white screen; exactly the black pixels
+  -- width, height and bytes of a glyph in the corner of a white framebuffer; exactly the black pixels
   glyph : ℕ → ℕ → List ℕ → Picture → Row
   -- width and height of a picture; bytes saved, and bytes in line
   sizes : ℕ → ℕ → ℕ → ℕ → Row
@@ -42,8 +42,8 @@ HasAll g [] = Unit {0}
 HasAll g (b ∷ l) = (getD g (b .at) 0 ≡ b .is) × HasAll g l
 
 pub record Gives (w : World) (p : Picture) (bytes : List Byte) (count last : ℕ) : Type 0 where
-  pub shows : Shows (w .screen) p
-  pub has : HasAll (w .screen) bytes
+  pub shows : Shows (w .framebuffer) p
+  pub has : HasAll (w .framebuffer) bytes
   pub refused : port w .refusals .count ≡ count
   pub reason : port w .refusals .last ≡ last
 
@@ -65,8 +65,8 @@ byte k b = record { at = k; is = b }
 abbrev pub cornerPixels : Row
 cornerPixels = stream 1024 (254 ∷ 112 ∷ 0 ∷ 0 ∷ 254 ∷ 112 ∷ 239 ∷ 63 ∷ []) (λ x y. point 0 0 x y || point 239 63 x y) (byte 0 128 ∷ byte 1919 1 ∷ []) [] 0 0
 
-abbrev pub beyondGlass : Row
-beyondGlass = stream 1024 (254 ∷ 112 ∷ 240 ∷ 0 ∷ []) nothing [] [] 0 0
+abbrev pub pixelOutOfBounds : Row
+pixelOutOfBounds = stream 1024 (254 ∷ 112 ∷ 240 ∷ 0 ∷ []) nothing [] [] 0 0
 
 abbrev pub lineDown : Row
 lineDown = stream 1024 (254 ∷ 108 ∷ 0 ∷ 0 ∷ 2 ∷ 1 ∷ []) (λ x y. point 0 0 x y || point 1 1 x y || point 2 1 x y) [] [] 0 0
@@ -106,4 +106,4 @@ uploadTooLarge = stream 1024 (254 ∷ 94 ∷ 1 ∷ 1 ∷ 3 ∷ []) nothing [] (8
 
 -- THE TABLE
 abbrev pub table : List Row
-table = cornerPixels ∷ beyondGlass ∷ lineDown ∷ lineBack ∷ onePixel ∷ barFromBottom ∷ barFromLeft ∷ barFromRight ∷ letterT ∷ pictureSizes ∷ flowRefused ∷ flowAccepted ∷ uploadFits ∷ uploadTooLarge ∷ []
+table = cornerPixels ∷ pixelOutOfBounds ∷ lineDown ∷ lineBack ∷ onePixel ∷ barFromBottom ∷ barFromLeft ∷ barFromRight ∷ letterT ∷ pictureSizes ∷ flowRefused ∷ flowAccepted ∷ uploadFits ∷ uploadTooLarge ∷ []

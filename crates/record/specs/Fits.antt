@@ -27,9 +27,9 @@ Pair n = n < 65536
 abbrev pub FitsPhase : Phase → Type 0
 FitsPhase Idle = Unit
 FitsPhase Prefix = Unit
-FitsPhase (Gathering c g) = Byte c × Byte g
-FitsPhase (Inline x1 y1 x2 y2 d) = Byte x1 × Byte y1 × Byte x2 × Byte y2 × Pair d
-FitsPhase (Upload k n z s w b) = Byte k × Byte n × Pair z × Pair s × Byte b
+FitsPhase (Gathering code got) = Byte code × Byte got
+FitsPhase (Inline x1 y1 x2 y2 came) = Byte x1 × Byte y1 × Byte x2 × Byte y2 × Pair came
+FitsPhase (Upload kind number size stored waiting byte) = Byte kind × Byte number × Pair size × Pair stored × Byte byte
 
 pub record FitsText (t : Text) : Type 0 where
   pub x-fits : Pair (t .x)

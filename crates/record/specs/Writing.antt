@@ -29,23 +29,23 @@ manyBytes one (a ∷ l) = one a ++ manyBytes one l
 abbrev pub gatheringBytes : Phase → List ℕ
 gatheringBytes Idle = 0 ∷ 0 ∷ 0 ∷ []
 gatheringBytes Prefix = 1 ∷ 0 ∷ 0 ∷ []
-gatheringBytes (Gathering c g) = 2 ∷ c ∷ g ∷ []
-gatheringBytes (Inline x1 y1 x2 y2 d) = 3 ∷ 0 ∷ 0 ∷ []
-gatheringBytes (Upload k n z s w b) = 4 ∷ 0 ∷ 0 ∷ []
+gatheringBytes (Gathering code got) = 2 ∷ code ∷ got ∷ []
+gatheringBytes (Inline x1 y1 x2 y2 came) = 3 ∷ 0 ∷ 0 ∷ []
+gatheringBytes (Upload kind number size stored waiting byte) = 4 ∷ 0 ∷ 0 ∷ []
 
 abbrev pub dataBytes : Phase → List ℕ
 dataBytes Idle = 0 ∷ 0 ∷ 0 ∷ 0 ∷ 0 ∷ 0 ∷ []
 dataBytes Prefix = 0 ∷ 0 ∷ 0 ∷ 0 ∷ 0 ∷ 0 ∷ []
-dataBytes (Gathering c g) = 0 ∷ 0 ∷ 0 ∷ 0 ∷ 0 ∷ 0 ∷ []
-dataBytes (Inline x1 y1 x2 y2 d) = x1 ∷ y1 ∷ x2 ∷ y2 ∷ low d ∷ high d ∷ []
-dataBytes (Upload k n z s w b) = 0 ∷ 0 ∷ 0 ∷ 0 ∷ 0 ∷ 0 ∷ []
+dataBytes (Gathering code got) = 0 ∷ 0 ∷ 0 ∷ 0 ∷ 0 ∷ 0 ∷ []
+dataBytes (Inline x1 y1 x2 y2 came) = x1 ∷ y1 ∷ x2 ∷ y2 ∷ low came ∷ high came ∷ []
+dataBytes (Upload kind number size stored waiting byte) = 0 ∷ 0 ∷ 0 ∷ 0 ∷ 0 ∷ 0 ∷ []
 
 abbrev pub uploadBytes : Phase → List ℕ
 uploadBytes Idle = 0 ∷ 0 ∷ 0 ∷ 0 ∷ 0 ∷ 0 ∷ 0 ∷ 0 ∷ []
 uploadBytes Prefix = 0 ∷ 0 ∷ 0 ∷ 0 ∷ 0 ∷ 0 ∷ 0 ∷ 0 ∷ []
-uploadBytes (Gathering c g) = 0 ∷ 0 ∷ 0 ∷ 0 ∷ 0 ∷ 0 ∷ 0 ∷ 0 ∷ []
-uploadBytes (Inline x1 y1 x2 y2 d) = 0 ∷ 0 ∷ 0 ∷ 0 ∷ 0 ∷ 0 ∷ 0 ∷ 0 ∷ []
-uploadBytes (Upload k n z s w b) = k ∷ n ∷ low z ∷ high z ∷ low s ∷ high s ∷ bit w ∷ b ∷ []
+uploadBytes (Gathering code got) = 0 ∷ 0 ∷ 0 ∷ 0 ∷ 0 ∷ 0 ∷ 0 ∷ 0 ∷ []
+uploadBytes (Inline x1 y1 x2 y2 came) = 0 ∷ 0 ∷ 0 ∷ 0 ∷ 0 ∷ 0 ∷ 0 ∷ 0 ∷ []
+uploadBytes (Upload kind number size stored waiting byte) = kind ∷ number ∷ low size ∷ high size ∷ low stored ∷ high stored ∷ bit waiting ∷ byte ∷ []
 
 abbrev pub textBytes : Text → List ℕ
 textBytes t =

@@ -119,7 +119,7 @@ fn is_same(a: [u8; RECORD], r: &[u8]) -> bool
     same
 }
 
-// Whether it is the record of a sound state, on a glass of `height` rows.
+// Whether it is the record of a sound state, on a framebuffer of `height` rows.
 pub fn is_record(r: &[u8], height: u8) -> bool
     ensures { λ b. ⌜ b ≡ soundRecord height (now (r .entry)) ⌝ }
 {

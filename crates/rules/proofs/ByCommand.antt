@@ -31,11 +31,11 @@ use Rattle.fonts.specs.Bitmaps.{isBitmap, bitmapWidth, bitmapHeight}
 use Rattle.state.specs.State.{barOf, barAt, stripAt, strip}
 use Rattle.rules.specs.World.{World, rows, port, panel}
 use Rattle.rules.specs.Fonts.{Opened, opened, shut, openFont}
-use Rattle.rules.specs.Text.{placeX, placeY, Place, place, nowhere, wrapped, roomFor, glyphAt, glyphOn, characterIn, character, fontChosen, chooseFont, placeIn, setPlace}
+use Rattle.rules.specs.Text.{placeX, placeY, Place, place, nowhere, wrapped, fitted, glyphAt, glyphOn, characterIn, character, fontChosen, chooseFont, placeIn, setPlace}
 use Rattle.rules.specs.Drawing.{ordered, clear, drawPixel, drawLine, drawFrame, fillRectangle}
-use Rattle.rules.specs.Bars.{onScreen, apart, setUpBar, writeBar, setUpStrip, shiftStrip}
+use Rattle.rules.specs.Bars.{inBounds, apart, setUpBar, writeBar, setUpStrip, shiftStrip}
 use Rattle.rules.specs.Pictures.{bitmapIn, bitmapAt, showBitmap, beginInline, inlineData}
-use Rattle.rules.specs.Files.{inUse, noRoom, beginUpload, confirmed, uploadData, unchosen, deleteFile, purge}
+use Rattle.rules.specs.Files.{inUse, lacksSpace, beginUpload, confirmed, uploadData, unchosen, deleteFile, purge}
 use Rattle.rules.specs.Settings.{flowOn, setSerial}
 use Rattle.rules.specs.Events.{placeEvent, glyphEvent, fontEvent, characterEvent, bitmapEvent}
 use Rattle.rules.proofs.Obeying.{Fair, Obeying, passes, fair-painted, fair-quiet, fair-set-up, fair-wrote}
@@ -44,30 +44,30 @@ use Rattle.rules.proofs.Obeying.{Fair, Obeying, passes, fair-painted, f
 
 pub clear-obeys : (w : World) → Obeying w (painted everywhere) (clear w)
 unfolding clear
-clear-obeys w = fair-painted w _ refl refl refl everywhere (clear-footprint (w .screen))
+clear-obeys w = fair-painted w _ refl refl refl everywhere (clear-footprint (w .framebuffer))
 
 pub pixel-obeys : (w : World) (x y : ℕ) → Obeying w (painted (point x y)) (drawPixel w x y)
 unfolding drawPixel
-pixel-obeys w x y = fair-painted w _ refl refl refl (point x y) (outside-put (point x y) (plain (port w .drawing .black)) (w .screen))
+pixel-obeys w x y = fair-painted w _ refl refl refl (point x y) (outside-put (point x y) (plain (port w .drawing .black)) (w .framebuffer))
 
 pub line-obeys : (w : World) (x1 y1 x2 y2 : ℕ) → Obeying w (painted (line x1 y1 x2 y2)) (drawLine w x1 y1 x2 y2)
 unfolding drawLine
-line-obeys w x1 y1 x2 y2 = fair-painted w _ refl refl refl (line x1 y1 x2 y2) (outside-put (line x1 y1 x2 y2) (plain (port w .drawing .black)) (w .screen))
+line-obeys w x1 y1 x2 y2 = fair-painted w _ refl refl refl (line x1 y1 x2 y2) (outside-put (line x1 y1 x2 y2) (plain (port w .drawing .black)) (w .framebuffer))
 
 pub frame-obeys : (w : World) (c x1 y1 x2 y2 : ℕ) → Obeying w (painted (frame x1 y1 x2 y2)) (drawFrame w c x1 y1 x2 y2)
 unfolding drawFrame
-frame-obeys w c x1 y1 x2 y2 = passes w _ (not (ordered x1 y1 x2 y2)) 18 _ (λ _. fair-painted w _ refl refl refl (frame x1 y1 x2 y2) (outside-put (frame x1 y1 x2 y2) (plain (eqb c 1)) (w .screen)))
+frame-obeys w c x1 y1 x2 y2 = passes w _ (not (ordered x1 y1 x2 y2)) 18 _ (λ _. fair-painted w _ refl refl refl (frame x1 y1 x2 y2) (outside-put (frame x1 y1 x2 y2) (plain (eqb c 1)) (w .framebuffer)))
 
 pub solid-obeys : (w : World) (c x1 y1 x2 y2 : ℕ) → Obeying w (painted (rectangle x1 y1 x2 y2)) (fillRectangle w c x1 y1 x2 y2)
 unfolding fillRectangle
-solid-obeys w c x1 y1 x2 y2 = passes w _ (not (ordered x1 y1 x2 y2)) 18 _ (λ _. fair-painted w _ refl refl refl (rectangle x1 y1 x2 y2) (outside-put (rectangle x1 y1 x2 y2) (plain (eqb c 1)) (w .screen)))
+solid-obeys w c x1 y1 x2 y2 = passes w _ (not (ordered x1 y1 x2 y2)) 18 _ (λ _. fair-painted w _ refl refl refl (rectangle x1 y1 x2 y2) (outside-put (rectangle x1 y1 x2 y2) (plain (eqb c 1)) (w .framebuffer)))
 
 -- ---- bars and strips
 
 pub set-up-obeys : (w : World) (n k x1 y1 x2 y2 : ℕ) → length (panel w .bars) ≡ 16 → Obeying w (setUp n (barOf k x1 y1 x2 y2 0)) (setUpBar w n k x1 y1 x2 y2)
 unfolding setUpBar
 set-up-obeys w n k x1 y1 x2 y2 s =
-    passes w _ (leb 16 n) 19 _ (λ h. passes w _ (leb 4 k) 20 _ (λ _. passes w _ (not (onScreen w x1 y1 x2 y2)) 17 _ (λ _. passes w _ (not (apart x1 y1 x2 y2)) 18 _ (λ _.
+    passes w _ (leb 16 n) 19 _ (λ h. passes w _ (leb 4 k) 20 _ (λ _. passes w _ (not (inBounds w x1 y1 x2 y2)) 17 _ (λ _. passes w _ (not (apart x1 y1 x2 y2)) 18 _ (λ _.
     fair-set-up w n (omega (arith, leb-false 16 n h)) (barOf k x1 y1 x2 y2 0)))))
 
 pub write-obeys : (w : World) (n v : ℕ) → length (panel w .bars) ≡ 16 → Obeying w (wrote n v) (writeBar w n v)
@@ -78,21 +78,21 @@ write-obeys w n v s =
 pub strip-obeys : (w : World) (n x1 y1 x2 y2 : ℕ) → Obeying w quiet (setUpStrip w n x1 y1 x2 y2)
 unfolding setUpStrip
 strip-obeys w n x1 y1 x2 y2 =
-    passes w _ (leb 8 n) 19 _ (λ _. passes w _ (not (onScreen w x1 y1 x2 y2)) 17 _ (λ _. passes w _ (not (apart x1 y1 x2 y2)) 18 _ (λ _.
+    passes w _ (leb 8 n) 19 _ (λ _. passes w _ (not (inBounds w x1 y1 x2 y2)) 17 _ (λ _. passes w _ (not (apart x1 y1 x2 y2)) 18 _ (λ _.
     fair-quiet w _ refl (length-set (panel w .strips) n (strip true x1 y1 x2 y2)) refl refl)))
 
 pub shift-obeys : (w : World) (b : ℕ) → Obeying w (painted (rectangle (stripAt (panel w) (b % 128) .x1) (stripAt (panel w) (b % 128) .y1) (stripAt (panel w) (b % 128) .x2) (stripAt (panel w) (b % 128) .y2))) (shiftStrip w b)
 unfolding shiftStrip
 shift-obeys w b =
     passes w _ (leb 8 (b % 128)) 19 _ (λ _. passes w _ (not (stripAt (panel w) (b % 128) .on)) 21 _ (λ _.
-    fair-painted w _ refl refl refl _ (strip-footprint (leb 128 b) (stripAt (panel w) (b % 128) .x1) (stripAt (panel w) (b % 128) .y1) (stripAt (panel w) (b % 128) .x2) (stripAt (panel w) (b % 128) .y2) (w .screen))))
+    fair-painted w _ refl refl refl _ (strip-footprint (leb 128 b) (stripAt (panel w) (b % 128) .x1) (stripAt (panel w) (b % 128) .y1) (stripAt (panel w) (b % 128) .x2) (stripAt (panel w) (b % 128) .y2) (w .framebuffer))))
 
 -- ---- bitmaps
 
 bitmap-in : (w : World) (f : List ℕ) (x y : ℕ) → Obeying w (painted (box x (x + bitmapWidth f) y (y + bitmapHeight f))) (bitmapIn w f x y)
 unfolding bitmapIn
 bitmap-in w f x y =
-    passes w _ (not (isBitmap f)) 23 _ (λ _. fair-painted w _ refl refl refl _ (packed-footprint x y (bitmapWidth f) (bitmapHeight f) (drop 2 f) (w .screen)))
+    passes w _ (not (isBitmap f)) 23 _ (λ _. fair-painted w _ refl refl refl _ (packed-footprint x y (bitmapWidth f) (bitmapHeight f) (drop 2 f) (w .framebuffer)))
 
 bitmap-at : (w : World) (t : Found) (x y : ℕ) → Obeying w (bitmapEvent (w .store) t x y) (bitmapAt w t x y)
 unfolding bitmapAt
@@ -105,11 +105,11 @@ bitmap-obeys w n x y = bitmap-at w (findOf (w .store) 2 n) x y
 
 pub corners-obey : (w : World) (x1 y1 x2 y2 : ℕ) → Obeying w (painted (rectangle x1 y1 x2 y2)) (beginInline w x1 y1 x2 y2)
 unfolding beginInline
-corners-obey w x1 y1 x2 y2 = passes w _ (not (ordered x1 y1 x2 y2)) 18 _ (λ _. fair-painted w _ refl refl refl (rectangle x1 y1 x2 y2) (outside-none (rectangle x1 y1 x2 y2) (w .screen)))
+corners-obey w x1 y1 x2 y2 = passes w _ (not (ordered x1 y1 x2 y2)) 18 _ (λ _. fair-painted w _ refl refl refl (rectangle x1 y1 x2 y2) (outside-none (rectangle x1 y1 x2 y2) (w .framebuffer)))
 
 pub inline-obeys : (w : World) (x1 y1 x2 y2 d b : ℕ) → Obeying w (painted (rectangle x1 y1 x2 y2)) (inlineData w x1 y1 x2 y2 d b)
 unfolding inlineData
-inline-obeys w x1 y1 x2 y2 d b = fair-painted w _ refl refl refl (rectangle x1 y1 x2 y2) (inline-footprint x1 y1 x2 y2 d b (w .screen))
+inline-obeys w x1 y1 x2 y2 d b = fair-painted w _ refl refl refl (rectangle x1 y1 x2 y2) (inline-footprint x1 y1 x2 y2 d b (w .framebuffer))
 
 -- ---- text
 
@@ -132,7 +132,7 @@ pub place-obeys : (w : World) (c r : ℕ) → Obeying w quiet (setPlace w c r)
 unfolding setPlace
 place-obeys w c r = placing w c r (openFont (rows w) (w .store) (port w .text .font))
 
--- the box, or everything where the screen moves up first
+-- the box, or everything where the framebuffer moves up first
 box-painted : (u : ℕ) (t : Bool) (g : List ℕ) (x y v f : ℕ) (bits : List ℕ) → eqb u 0 ≡ t
     → SameOutside (cond t (box x (x + v) y (y + f)) everywhere) g (packedBox x y v f bits (cond t g (scrolled u g)))
 box-painted u true g x y v f bits e = packed-footprint x y v f bits g
@@ -144,12 +144,12 @@ unfolding glyphAt
 glyph-at w f o v t nowhere = tt
 glyph-at w f o v t (place x y up) =
     fair-painted w _ refl refl refl (cond (eqb up 0) (box x (x + v) y (y + t)) everywhere)
-    (box-painted up (eqb up 0) (w .screen) x y v t (drop o f) refl)
+    (box-painted up (eqb up 0) (w .framebuffer) x y v t (drop o f) refl)
 
 glyph-on : (w : World) (f : List ℕ) (g : Glyph) → Obeying w (glyphEvent w f g) (glyphOn w f g)
 unfolding glyphOn
 glyph-on w f the-variants.Missing = tt
-glyph-on w f (the-variants.At o v t) = glyph-at w f o v t (roomFor (rows w) v t (wrapped (port w .text) v t))
+glyph-on w f (the-variants.At o v t) = glyph-at w f o v t (fitted (rows w) v t (wrapped (port w .text) v t))
 
 in-font : (w : World) (c : ℕ) (o : Opened) → Obeying w (fontEvent w c o) (characterIn w c o)
 unfolding characterIn
@@ -166,7 +166,7 @@ pub upload-obeys : (w : World) (k n z : ℕ) → Obeying w quiet (beginUpload w 
 unfolding beginUpload
 upload-obeys w k n z =
     by-test (Obeying w quiet) (inUse (w .store) k n) _ _ (λ _. tt)
-    (λ _. by-test (Obeying w quiet) (noRoom (w .store) z) _ _ (λ _. tt) (λ _. fair-quiet w _ refl refl refl refl))
+    (λ _. by-test (Obeying w quiet) (lacksSpace (w .store) z) _ _ (λ _. tt) (λ _. fair-quiet w _ refl refl refl refl))
 
 confirmed-fair : (w : World) (k n z s c : ℕ) → Fair w quiet (confirmed w k n z s c)
 confirmed-fair w k n z s c =
@@ -177,7 +177,7 @@ unfolding uploadData
 data-obeys w k n z s false c b = fair-quiet w _ refl refl refl refl
 data-obeys w k n z s true c b = passes w _ (not (eqb b 1)) 26 _ (λ _. confirmed-fair w k n z s c)
 
-unchosen-fair : (w v : World) (k n : ℕ) → v .screen ≡ w .screen → panel v ≡ panel w → port v .refusals ≡ port w .refusals → Fair w quiet (unchosen v k n)
+unchosen-fair : (w v : World) (k n : ℕ) → v .framebuffer ≡ w .framebuffer → panel v ≡ panel w → port v .refusals ≡ port w .refusals → Fair w quiet (unchosen v k n)
 unchosen-fair w v k n s p r =
     by-test (Fair w quiet) (eqb k 1 && eqb n (port v .text .font)) _ _ (λ _. fair-quiet w _ (rw p) (rw p) r s) (λ _. fair-quiet w v (rw p) (rw p) r s)
 

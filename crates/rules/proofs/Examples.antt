@@ -1,4 +1,4 @@
--- Worked examples, where a slip is likely: on a screen of 8 rows and a store with no file.
+-- Worked examples, where a slip is likely: on a framebuffer of 8 rows and a store with no file.
 -- Assumes nothing.
 use mathlib.Core.Path.{_≡_, refl}
 use mathlib.Core.Bool.{true}
@@ -15,7 +15,7 @@ use Rattle.bar_graph.specs.Bars.{lengthOf, heldTo}
 use Rattle.state.specs.State.{startState, barAt}
 use Rattle.state.specs.Commands.{commandOf}
 use Rattle.rules.specs.World.{World, world, port, panel, refused}
-use Rattle.rules.specs.Text.{place, nowhere, textOf, wrapped, roomFor}
+use Rattle.rules.specs.Text.{place, nowhere, textOf, wrapped, fitted}
 use Rattle.rules.specs.Bars.{setUpBar, writeBar, setUpStrip, shiftStrip}
 use Rattle.rules.specs.Files.{beginUpload, uploadData, deleteFile, purge}
 use Rattle.rules.specs.Pictures.{inlineData}
@@ -64,13 +64,13 @@ pub early-ends : (code blank 254 ≡ refused 16 []) × (argument blank 98 0 7 �
 unfolding code argument obey commandOf hasFile entriesFrom readFrom stepAt directory.lengthOf
 early-ends = (refl, refl)
 
--- A CHARACTER'S PLACE: up to column 240 it stays; then the next line, the screen moved up, or the top; and no room is known before anything moves
+-- A CHARACTER'S PLACE: up to column 240 it stays; then the next line, the framebuffer moved up, or the top; and no room is known before anything moves
 abbrev pub near : ℕ → ℕ → ℕ → Text
 near x y row = textOf 1 x y 0 0 1 1 row true true
 
 pub places : (wrapped (near 235 0 64) 5 7 ≡ place 235 0 0) × (wrapped (near 236 48 64) 5 7 ≡ place 0 56 0) × (wrapped (near 236 50 64) 5 7 ≡ place 0 50 8)
-    × (roomFor 64 5 7 (wrapped (near 236 58 64) 5 7) ≡ nowhere)
-unfolding wrapped roomFor
+    × (fitted 64 5 7 (wrapped (near 236 58 64) 5 7) ≡ nowhere)
+unfolding wrapped fitted
 places = (refl, refl, refl, refl)
 
 -- A VALUE IS HELD TO THE LENGTH: columns for a horizontal bar, rows for a vertical one

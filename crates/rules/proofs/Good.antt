@@ -1,4 +1,4 @@
--- A good world by its parts: what is good of each part that a command puts anew, with the lengths of screen and store beside them; both directions.
+-- A good world by its parts: what is good of each part that a command puts anew, with the lengths of framebuffer and store beside them; both directions.
 -- Assumes nothing.
 use mathlib.Core.Path.{_≡_, refl, ap}
 use mathlib.Core.Bool.{Bool, true, false}
@@ -22,7 +22,7 @@ use Rattle.state.specs.declared.Serial.{Serial}
 use Rattle.state.specs.declared.Panel.{Panel}
 use Rattle.state.specs.State.{noBar, noStrip, withPhase, withDrawing, withFlow, withRefusals, withBars, withStrips}
 use Rattle.state.specs.Soundness.{soundPhase, gathered, allZero, soundPort, soundBars, soundStrips, soundSerial, soundPanel, soundState}
-use Rattle.rules.specs.World.{World, rows, port, panel, withScreen, withStore, withPort, withPanel, putText, Outcome, done, refused, refuseIf}
+use Rattle.rules.specs.World.{World, rows, port, panel, withFramebuffer, withStore, withPort, withPanel, putText, Outcome, done, refused, refuseIf}
 use Rattle.rules.specs.Sound.{Bytes, PhaseFits, ArgsFit, TextFits, DrawingFits, FlowFits, RefusalsFit, PortFits, BarFits, StripFits, SerialFits, PanelFits, Welcome, Good}
 
 -- ---- the parts
@@ -77,8 +77,8 @@ pub record StoreGood (m : ℕ) (s : List ℕ) : Type 0 where
   pub valid : validOf s ≡ true
   pub long : length s ≡ m
 
--- n bytes of screen
-pub record ScreenGood (n : ℕ) (g : List ℕ) : Type 0 where
+-- n bytes of framebuffer
+pub record FramebufferGood (n : ℕ) (g : List ℕ) : Type 0 where
   pub bytes : Bytes g
   pub long : length g ≡ n
 
@@ -86,7 +86,7 @@ pub record Parts (n m : ℕ) (w : World) : Type 0 where
   pub port-good : PortGood (port w) (w .store)
   pub panel-good : PanelGood (n / 30) (panel w)
   pub store : StoreGood m (w .store)
-  pub screen : ScreenGood n (w .screen)
+  pub framebuffer : FramebufferGood n (w .framebuffer)
   pub low : n / 30 < 256
 
 -- ---- from a good world to its parts
@@ -118,7 +118,7 @@ panel-parts h q e f =
       minutes = f .minutes;
     }
 
-pub parts : {w : World} → Good w → Parts (length (w .screen)) (length (w .store)) w
+pub parts : {w : World} → Good w → Parts (length (w .framebuffer)) (length (w .store)) w
 unfolding soundState height
 parts {w} g =
     let s = and-both _ _ (g .sound) in
@@ -126,8 +126,8 @@ parts {w} g =
       port-good = port-parts (port w) (w .store) (s .0) (g .port-fits) (g .upload);
       panel-good = panel-parts (rows w) (panel w) (s .1) (g .panel-fits);
       store = record { bytes = g .store .bytes; valid = g .store .valid; long = refl };
-      screen = record { bytes = g .screen .bytes; long = refl };
-      low = g .screen .low;
+      framebuffer = record { bytes = g .framebuffer .bytes; long = refl };
+      low = g .framebuffer .low;
     }
 
 -- ---- and from the parts back
@@ -143,7 +143,7 @@ panel-sound g = rw (g .bars .sound, g .strips .sound, g .serial .sound)
 
 pub rows-are : {n m : ℕ} {w : World} → Parts n m w → rows w ≡ n / 30
 unfolding height
-rows-are p = ap (λ (k : ℕ). k / 30) (p .screen .long)
+rows-are p = ap (λ (k : ℕ). k / 30) (p .framebuffer .long)
 
 pub good : {n m : ℕ} {w : World} → Parts n m w → Good w
 unfolding soundState
@@ -155,7 +155,7 @@ good {n} {m} {w} p =
       port-fits = record { phase = q .phase .fits; args = q .phase .args; text = q .text .fits; drawing = q .drawing; flow = q .flow .fits; refusals = q .refusals };
       panel-fits = record { sixteen = r .bars .long; bars = r .bars .fits; eight = r .strips .long; strips = r .strips .fits; serial = r .serial .fits; contrast = r .contrast; minutes = r .minutes };
       store = record { bytes = p .store .bytes; valid = p .store .valid };
-      screen = record { bytes = p .screen .bytes; low = rw (rows-are p) (p .low) };
+      framebuffer = record { bytes = p .framebuffer .bytes; low = rw (rows-are p) (p .low) };
       upload = q .phase .welcome;
     }
 
@@ -163,13 +163,13 @@ good {n} {m} {w} p =
 
 module _ {n m : ℕ} {w : World} (p : Parts n m w) where
   pub put-port : {q : Port} → PortGood q (w .store) → Parts n m (withPort w q)
-  put-port g = record { port-good = g; panel-good = p .panel-good; store = p .store; screen = p .screen; low = p .low }
+  put-port g = record { port-good = g; panel-good = p .panel-good; store = p .store; framebuffer = p .framebuffer; low = p .low }
 
   pub put-panel : {q : Panel} → PanelGood (n / 30) q → Parts n m (withPanel w q)
-  put-panel g = record { port-good = p .port-good; panel-good = g; store = p .store; screen = p .screen; low = p .low }
+  put-panel g = record { port-good = p .port-good; panel-good = g; store = p .store; framebuffer = p .framebuffer; low = p .low }
 
-  pub put-screen : {g : List ℕ} → ScreenGood n g → Parts n m (withScreen w g)
-  put-screen g = record { port-good = p .port-good; panel-good = p .panel-good; store = p .store; screen = g; low = p .low }
+  pub put-framebuffer : {g : List ℕ} → FramebufferGood n g → Parts n m (withFramebuffer w g)
+  put-framebuffer g = record { port-good = p .port-good; panel-good = p .panel-good; store = p .store; framebuffer = g; low = p .low }
 
   pub put-text : {t : Text} → TextGood t → Parts n m (putText w t)
   put-text g = let q = p .port-good in put-port (record { phase = q .phase; text = g; drawing = q .drawing; flow = q .flow; refusals = q .refusals })
@@ -200,7 +200,7 @@ module _ {n m : ℕ} {w : World} (p : Parts n m w) where
         port-good = record { phase = f; text = q .text; drawing = q .drawing; flow = q .flow; refusals = q .refusals };
         panel-good = p .panel-good;
         store = g;
-        screen = p .screen;
+        framebuffer = p .framebuffer;
         low = p .low;
       }
 
@@ -212,7 +212,7 @@ module _ {n m : ℕ} {w : World} (p : Parts n m w) where
         port-good = record { phase = f; text = q .text; drawing = q .drawing; flow = q .flow; refusals = q .refusals };
         panel-good = p .panel-good;
         store = g;
-        screen = p .screen;
+        framebuffer = p .framebuffer;
         low = p .low;
       }
 

@@ -1,4 +1,4 @@
--- EVERY BYTE KEEPS A GOOD WORLD GOOD, the start is good, and screen and store stay as long as they are.
+-- EVERY BYTE KEEPS A GOOD WORLD GOOD, the start is good, and framebuffer and store stay as long as they are.
 -- Assumes nothing.
 use mathlib.Core.Path.{_≡_, refl}
 use mathlib.Core.Bool.{true, false}
@@ -166,8 +166,8 @@ good-run w (b ∷ l) g h = good-run (step w b) l (good-step w b g (h 0)) (λ i. 
 
 -- ---- lengths
 
-pub screen-length : (w : World) (b : ℕ) → Good w → length (step w b .screen) ≡ length (w .screen)
-screen-length w b g = keeps-out (event w b) (view w) (view (step w b)) (byte-steps w b (g .panel-fits .sixteen) .obeys) .long
+pub framebuffer-length : (w : World) (b : ℕ) → Good w → length (step w b .framebuffer) ≡ length (w .framebuffer)
+framebuffer-length w b g = keeps-out (event w b) (view w) (view (step w b)) (byte-steps w b (g .panel-fits .sixteen) .obeys) .long
 
 pub store-length : (w : World) (b : ℕ) → Good w → b < 256 → length (step w b .store) ≡ length (w .store)
 store-length w b g h = parts-step (parts g) b h .store .long
@@ -201,6 +201,6 @@ good-start h g s e l b c v =
       port-good = record { phase = idle-good s; text = start-text h l; drawing = omega arith; flow = omega arith; refusals = omega arith };
       panel-good = nothing-set-up (30 * h / 30);
       store = record { bytes = c; valid = v; long = refl };
-      screen = record { bytes = b; long = e };
+      framebuffer = record { bytes = b; long = e };
       low = omega arith;
     })

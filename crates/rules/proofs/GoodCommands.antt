@@ -1,4 +1,4 @@
--- Each command on a good world leaves a good one, of as much screen and store: drawing, bars and strips, bitmaps, settings.
+-- Each command on a good world leaves a good one, of as much framebuffer and store: drawing, bars and strips, bitmaps, settings.
 -- Assumes nothing.
 use mathlib.Core.Path.{_≡_, refl}
 use mathlib.Core.Bool.{Bool, true, false, not, _&&_}
@@ -19,31 +19,31 @@ use Rattle.fonts.specs.Bitmaps.{isBitmap}
 use Rattle.file_laws.proofs.Written.{and-both}
 use Rattle.state.specs.declared.BarSlot.{BarSlot}
 use Rattle.state.specs.State.{barOf, barSlot, barAt, strip, stripAt}
-use Rattle.state.specs.Soundness.{soundBar, soundStrip, soundSerial, onGlass, soundSetUp}
+use Rattle.state.specs.Soundness.{soundBar, soundStrip, soundSerial, soundCorners, soundSetUp}
 use Rattle.rules.specs.World.{World, rows, panel}
 use Rattle.rules.specs.Drawing.{ordered, clear, setColour, drawPixel, drawLine, drawFrame, fillRectangle}
-use Rattle.rules.specs.Bars.{onScreen, apart, setUpBar, writeBar, setUpStrip, shiftStrip}
+use Rattle.rules.specs.Bars.{inBounds, apart, setUpBar, writeBar, setUpStrip, shiftStrip}
 use Rattle.rules.specs.Pictures.{bitmapIn, bitmapAt, showBitmap}
 use Rattle.rules.specs.Settings.{flowOn, flowOff, setContrast, backlightOn, backlightOff, setSerial}
 use Rattle.rules.specs.Sound.{BarFits}
-use Rattle.rules.proofs.Good.{ScreenGood, Parts, rows-are, put-panel, put-screen, put-text, put-drawing, put-flow, put-bars, put-strips, Leaves, passes}
+use Rattle.rules.proofs.Good.{FramebufferGood, Parts, rows-are, put-panel, put-framebuffer, put-text, put-drawing, put-flow, put-bars, put-strips, Leaves, passes}
 use Rattle.rules.proofs.GoodLists.{bar-sound, bars-good, strips-good}
 use Rattle.rules.proofs.GoodText.{painted-good, home-good}
 
 -- ---- bars and strips, from the tests of a set-up
 
 record Inside (h x1 y1 x2 y2 : ℕ) : Type 0 where
-  glass : onGlass h x1 y1 x2 y2 ≡ true
+  framebuffer : soundCorners h x1 y1 x2 y2 ≡ true
   low : h < 256
   x1-fits : x1 < 256
   y1-fits : y1 < 256
   x2-fits : x2 < 256
   y2-fits : y2 < 256
 
-inside : {n m : ℕ} {w : World} → Parts n m w → (x1 y1 x2 y2 : ℕ) → not (onScreen w x1 y1 x2 y2) ≡ false → not (apart x1 y1 x2 y2) ≡ false
+inside : {n m : ℕ} {w : World} → Parts n m w → (x1 y1 x2 y2 : ℕ) → not (inBounds w x1 y1 x2 y2) ≡ false → not (apart x1 y1 x2 y2) ≡ false
     → Inside (n / 30) x1 y1 x2 y2
 inside {n} {m} {w} p x1 y1 x2 y2 h k =
-    let a = and-both _ _ (not-false (onScreen w x1 y1 x2 y2) h) in
+    let a = and-both _ _ (not-false (inBounds w x1 y1 x2 y2) h) in
     let b = and-both _ _ (a .0) in
     let e = and-both (ltb x1 x2) (ltb y1 y2) (not-false (apart x1 y1 x2 y2) k) in
     let x = ltb-true x1 x2 (e .0) in
@@ -53,7 +53,7 @@ inside {n} {m} {w} p x1 y1 x2 y2 h k =
     let r = rows-are p in
     let l = p .low in
     record {
-      glass = rw (e .0, e .1, lt-ltb x2 240 hx, lt-ltb y2 (n / 30) (omega arith));
+      framebuffer = rw (e .0, e .1, lt-ltb x2 240 hx, lt-ltb y2 (n / 30) (omega arith));
       low = l;
       x1-fits = omega arith;
       y1-fits = omega arith;
@@ -61,7 +61,7 @@ inside {n} {m} {w} p x1 y1 x2 y2 h k =
       y2-fits = omega arith;
     }
 
-set-up-sound : (h k x1 y1 x2 y2 : ℕ) → onGlass h x1 y1 x2 y2 ≡ true → k < 4 → soundBar h (barSlot true (barOf k x1 y1 x2 y2 0)) ≡ true
+set-up-sound : (h k x1 y1 x2 y2 : ℕ) → soundCorners h x1 y1 x2 y2 ≡ true → k < 4 → soundBar h (barSlot true (barOf k x1 y1 x2 y2 0)) ≡ true
 unfolding soundBar soundSetUp
 set-up-sound h k x1 y1 x2 y2 g l = rw (g, le-leb 0 (lengthOf (barOf k x1 y1 x2 y2 0)) (omega arith), lt-ltb k 4 l)
 
@@ -73,7 +73,7 @@ written-sound : (h : ℕ) (s : BarSlot) (v : ℕ) → s .on ≡ true → soundBa
 unfolding soundBar heldTo lengthOf soundSetUp
 written-sound h s v e q =
     let b = s .bar in
-    let g = onGlass h (b .x1) (b .y1) (b .x2) (b .y2) in
+    let g = soundCorners h (b .x1) (b .y1) (b .x2) (b .y2) in
     let l = leb (b .value) (lengthOf b) in
     let a = and-both (g && l) (ltb (b .kind) 4) (rw e at q) in
     rw (and-both g l (a .0) .0, held-fits b v, a .1)
@@ -82,23 +82,23 @@ written-fits : (s : BarSlot) (v : ℕ) → v < 256 → BarFits s → BarFits (ba
 unfolding heldTo
 written-fits s v h f = omega arith
 
-written-screen : {n : ℕ} {g : List ℕ} → ScreenGood n g → (b : Bar) (v : ℕ) → ScreenGood n (writeOf b v g)
+written-framebuffer : {n : ℕ} {g : List ℕ} → FramebufferGood n g → (b : Bar) (v : ℕ) → FramebufferGood n (writeOf b v g)
 unfolding writeOf
-written-screen {n} {g} s b v =
-    by-test (ScreenGood n) (eqb v 0) _ _ (λ _. painted-good s _)
-    (λ _. by-test (ScreenGood n) (ltb (b .value) (heldTo b v)) _ _ (λ _. painted-good s _) (λ _. painted-good s _))
+written-framebuffer {n} {g} s b v =
+    by-test (FramebufferGood n) (eqb v 0) _ _ (λ _. painted-good s _)
+    (λ _. by-test (FramebufferGood n) (ltb (b .value) (heldTo b v)) _ _ (λ _. painted-good s _) (λ _. painted-good s _))
 
 -- ---- each command
 
 module _ {n m : ℕ} {w : World} (p : Parts n m w) where
-  paints : (f : ℕ → ℕ → Bool → Bool) → ScreenGood n (repaint f (w .screen))
-  paints f = painted-good (p .screen) f
+  paints : (f : ℕ → ℕ → Bool → Bool) → FramebufferGood n (repaint f (w .framebuffer))
+  paints f = painted-good (p .framebuffer) f
 
   -- ---- drawing
 
   pub clear-good : Leaves n m (clear w)
   unfolding clear
-  clear-good = put-text (put-screen p (paints _)) (home-good (p .port-good .text))
+  clear-good = put-text (put-framebuffer p (paints _)) (home-good (p .port-good .text))
 
   pub colour-good : (c : ℕ) → Leaves n m (setColour w c)
   unfolding setColour
@@ -106,19 +106,19 @@ module _ {n m : ℕ} {w : World} (p : Parts n m w) where
 
   pub pixel-good : (x y : ℕ) → Leaves n m (drawPixel w x y)
   unfolding drawPixel
-  pixel-good x y = put-screen p (paints _)
+  pixel-good x y = put-framebuffer p (paints _)
 
   pub line-good : (x1 y1 x2 y2 : ℕ) → x2 < 256 → y2 < 256 → Leaves n m (drawLine w x1 y1 x2 y2)
   unfolding drawLine
-  line-good x1 y1 x2 y2 h k = put-drawing (put-screen p (paints _)) (record { x = h; y = k })
+  line-good x1 y1 x2 y2 h k = put-drawing (put-framebuffer p (paints _)) (record { x = h; y = k })
 
   pub frame-good : (c x1 y1 x2 y2 : ℕ) → Leaves n m (drawFrame w c x1 y1 x2 y2)
   unfolding drawFrame
-  frame-good c x1 y1 x2 y2 = passes n m (not (ordered x1 y1 x2 y2)) 18 _ (omega arith) (λ _. put-screen p (paints _))
+  frame-good c x1 y1 x2 y2 = passes n m (not (ordered x1 y1 x2 y2)) 18 _ (omega arith) (λ _. put-framebuffer p (paints _))
 
   pub solid-good : (c x1 y1 x2 y2 : ℕ) → Leaves n m (fillRectangle w c x1 y1 x2 y2)
   unfolding fillRectangle
-  solid-good c x1 y1 x2 y2 = passes n m (not (ordered x1 y1 x2 y2)) 18 _ (omega arith) (λ _. put-screen p (paints _))
+  solid-good c x1 y1 x2 y2 = passes n m (not (ordered x1 y1 x2 y2)) 18 _ (omega arith) (λ _. put-framebuffer p (paints _))
 
   -- ---- bars and strips
 
@@ -126,10 +126,10 @@ module _ {n m : ℕ} {w : World} (p : Parts n m w) where
   unfolding setUpBar
   set-up-good i k x1 y1 x2 y2 =
       passes n m (leb 16 i) 19 _ (omega arith) (λ _. passes n m (leb 4 k) 20 _ (omega arith) (λ hk.
-      passes n m (not (onScreen w x1 y1 x2 y2)) 17 _ (omega arith) (λ ho. passes n m (not (apart x1 y1 x2 y2)) 18 _ (omega arith) (λ ha.
+      passes n m (not (inBounds w x1 y1 x2 y2)) 17 _ (omega arith) (λ ho. passes n m (not (apart x1 y1 x2 y2)) 18 _ (omega arith) (λ ha.
       let q = inside p x1 y1 x2 y2 ho ha in
       let l = leb-false 4 k hk in
-      put-bars p (bars-good (p .panel-good .bars) i (barSlot true (barOf k x1 y1 x2 y2 0)) (set-up-sound (n / 30) k x1 y1 x2 y2 (q .glass) l) (omega (arith, q)))))))
+      put-bars p (bars-good (p .panel-good .bars) i (barSlot true (barOf k x1 y1 x2 y2 0)) (set-up-sound (n / 30) k x1 y1 x2 y2 (q .framebuffer) l) (omega (arith, q)))))))
 
   pub write-good : (i v : ℕ) → v < 256 → Leaves n m (writeBar w i v)
   unfolding writeBar
@@ -137,26 +137,26 @@ module _ {n m : ℕ} {w : World} (p : Parts n m w) where
       passes n m (leb 16 i) 19 _ (omega arith) (λ _. passes n m (not (barAt (panel w) i .on)) 21 _ (omega arith) (λ ho.
       let b = p .panel-good .bars in
       let s = barAt (panel w) i in
-      put-bars (put-screen p (written-screen (p .screen) (s .bar) v)) (bars-good b i (barSlot true (writtenBar (s .bar) v))
+      put-bars (put-framebuffer p (written-framebuffer (p .framebuffer) (s .bar) v)) (bars-good b i (barSlot true (writtenBar (s .bar) v))
       (written-sound (n / 30) s v (not-false (s .on) ho) (bar-sound (n / 30) (panel w .bars) i (b .sound))) (written-fits s v h (b .fits i)))))
 
   pub strip-good : (i x1 y1 x2 y2 : ℕ) → Leaves n m (setUpStrip w i x1 y1 x2 y2)
   unfolding setUpStrip soundStrip
   strip-good i x1 y1 x2 y2 =
-      passes n m (leb 8 i) 19 _ (omega arith) (λ _. passes n m (not (onScreen w x1 y1 x2 y2)) 17 _ (omega arith) (λ ho. passes n m (not (apart x1 y1 x2 y2)) 18 _ (omega arith) (λ ha.
+      passes n m (leb 8 i) 19 _ (omega arith) (λ _. passes n m (not (inBounds w x1 y1 x2 y2)) 17 _ (omega arith) (λ ho. passes n m (not (apart x1 y1 x2 y2)) 18 _ (omega arith) (λ ha.
       let q = inside p x1 y1 x2 y2 ho ha in
-      put-strips p (strips-good (p .panel-good .strips) i (strip true x1 y1 x2 y2) (q .glass) (omega (arith, q))))))
+      put-strips p (strips-good (p .panel-good .strips) i (strip true x1 y1 x2 y2) (q .framebuffer) (omega (arith, q))))))
 
   pub shift-good : (b : ℕ) → Leaves n m (shiftStrip w b)
   unfolding shiftStrip
-  shift-good b = passes n m (leb 8 (b % 128)) 19 _ (omega arith) (λ _. passes n m (not (stripAt (panel w) (b % 128) .on)) 21 _ (omega arith) (λ _. put-screen p (paints _)))
+  shift-good b = passes n m (leb 8 (b % 128)) 19 _ (omega arith) (λ _. passes n m (not (stripAt (panel w) (b % 128) .on)) 21 _ (omega arith) (λ _. put-framebuffer p (paints _)))
 
   -- ---- saved bitmaps
 
   bitmap-at : (t : Found) (x y : ℕ) → Leaves n m (bitmapAt w t x y)
   unfolding bitmapAt bitmapIn
   bitmap-at Nothing x y = omega arith
-  bitmap-at (At q a z) x y = passes n m (not (isBitmap (take z (drop a (w .store))))) 23 _ (omega arith) (λ _. put-screen p (paints _))
+  bitmap-at (At q a z) x y = passes n m (not (isBitmap (take z (drop a (w .store))))) 23 _ (omega arith) (λ _. put-framebuffer p (paints _))
 
   pub bitmap-good : (i x y : ℕ) → Leaves n m (showBitmap w i x y)
   unfolding showBitmap

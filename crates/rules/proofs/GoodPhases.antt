@@ -22,9 +22,9 @@ use Rattle.state.specs.Soundness.{inlineBytes, soundPhase, gathered, allZero, s
 use Rattle.rules.specs.World.{World, rows, port}
 use Rattle.rules.specs.Drawing.{ordered}
 use Rattle.rules.specs.Pictures.{beginInline, inlineData}
-use Rattle.rules.specs.Files.{inUse, noRoom, beginUpload, confirmed, uploadData, deleteFile, purge}
+use Rattle.rules.specs.Files.{inUse, lacksSpace, beginUpload, confirmed, uploadData, deleteFile, purge}
 use Rattle.rules.specs.Sound.{PhaseFits, Welcome}
-use Rattle.rules.proofs.Good.{PhaseGood, TextGood, StoreGood, Parts, rows-are, put-screen, put-text, put-phase, put-store, put-both, Leaves, passes}
+use Rattle.rules.proofs.Good.{PhaseGood, TextGood, StoreGood, Parts, rows-are, put-framebuffer, put-text, put-phase, put-store, put-both, Leaves, passes}
 use Rattle.rules.proofs.GoodLists.{no-args}
 use Rattle.rules.proofs.GoodStore.{isKind, room, stored-good, appended-good, deleted-good, purged-good}
 use Rattle.rules.proofs.GoodText.{painted-good, font-good}
@@ -57,7 +57,7 @@ inline-few x1 y1 x2 y2 h k =
 still-fresh : {m : ℕ} {s : List ℕ} → StoreGood m s → (k n j c : ℕ) → inUse s k n ≡ false → inUse (storedByte s j c) k n ≡ false
 still-fresh {m} {s} g k n j c h = rw (entries-stored s (g .bytes) (g .valid) j c) h
 
-pub still-room : {m : ℕ} {s : List ℕ} → StoreGood m s → (z j c : ℕ) → noRoom s z ≡ false → noRoom (storedByte s j c) z ≡ false
+pub still-room : {m : ℕ} {s : List ℕ} → StoreGood m s → (z j c : ℕ) → lacksSpace s z ≡ false → lacksSpace (storedByte s j c) z ≡ false
 still-room {m} {s} g z j c h = rw (entries-stored s (g .bytes) (g .valid) j c, length-set s (256 + sizesIn (entries s) + j) c) h
 
 pub start-text : (h : ℕ) → h < 256 → TextGood (startText h)
@@ -75,7 +75,7 @@ module _ {n m : ℕ} {w : World} (p : Parts n m w) where
   inline-good x1 y1 x2 y2 d b q =
       let f = q .fits in
       let o = and-both (ordered x1 y1 x2 y2) (ltb d (inlineBytes x1 y1 x2 y2)) (q .sound) .0 in
-      put-phase (put-screen p (painted-good (p .screen) _))
+      put-phase (put-framebuffer p (painted-good (p .framebuffer) _))
       (by-test (λ (f : Phase). PhaseGood f noArgs (w .store)) (ltb (d + 1) (inlineBytes x1 y1 x2 y2)) _ _
       (λ h. settled (Inline x1 y1 x2 y2 (d + 1)) (w .store) (rw (o, h)) refl
       (f .0, f .1, f .2, f .3, omega (arith, ltb-true (d + 1) (inlineBytes x1 y1 x2 y2) h, inline-few x1 y1 x2 y2 (f .2) (f .3))) tt)
@@ -85,7 +85,7 @@ module _ {n m : ℕ} {w : World} (p : Parts n m w) where
   unfolding beginUpload soundPhase soundInline soundUpload
   upload-good k i z e hk hi hz =
       by-test (Leaves n m) (inUse (w .store) k i) _ _ (λ _. omega arith) (λ u.
-      by-test (Leaves n m) (noRoom (w .store) z) _ _ (λ _. omega arith) (λ v.
+      by-test (Leaves n m) (lacksSpace (w .store) z) _ _ (λ _. omega arith) (λ v.
       put-phase p (settled (Upload k i z 0 false 0) (w .store) (rw (e, lt-ltb 0 z (omega (arith, eqb-false z 0 (room (w .store) z v .some))))) refl
       (hk, hi, hz, omega arith, omega arith) (u, v))))
 

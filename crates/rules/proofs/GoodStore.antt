@@ -22,7 +22,7 @@ use Rattle.file_laws.proofs.Delete.{split, sizes-cut}
 use Rattle.file_laws.proofs.Kept.{all-left, short}
 use Rattle.file_laws.proofs.Rules.{valid-less, valid-more, valid-none, room-for-one}
 use Rattle.file_laws.proofs.Meaning.{long-enough, append-means, delete-means, purge-means, valid-stored}
-use Rattle.rules.specs.Files.{inUse, noRoom}
+use Rattle.rules.specs.Files.{inUse, lacksSpace}
 use Rattle.rules.specs.Sound.{Bytes}
 use Rattle.rules.proofs.Good.{StoreGood}
 use Rattle.rules.proofs.GoodLists.{bytes-set, bytes-none, bytes-cons, bytes-drop, bytes-zeros, bytes-paste}
@@ -38,7 +38,7 @@ pub record Room (s : List ℕ) (z : ℕ) : Type 0 where
   pub few : length (entries s) < 63
   pub fits : 256 + sizesIn (entries s) + z ≤ length s
 
-pub room : (s : List ℕ) (z : ℕ) → noRoom s z ≡ false → Room s z
+pub room : (s : List ℕ) (z : ℕ) → lacksSpace s z ≡ false → Room s z
 room s z h =
     let a = or-one (eqb z 0 || leb 63 (length (entries s))) (ltb (unusedOf s) z) h in
     let b = or-one (eqb z 0) (leb 63 (length (entries s))) a in
@@ -100,7 +100,7 @@ appended-long s e =
     (λ _. refl)
 
 pub appended-good : {m : ℕ} {s : List ℕ} → StoreGood m s → (k n z : ℕ) → isKind k ≡ true → k < 256 → n < 256 → z < 65536
-    → inUse s k n ≡ false → noRoom s z ≡ false → StoreGood m (appended s (entry k n z))
+    → inUse s k n ≡ false → lacksSpace s z ≡ false → StoreGood m (appended s (entry k n z))
 unfolding isFair
 appended-good {m} {s} g k n z i hk hn hz u v =
     let l = long-enough s (g .valid) in

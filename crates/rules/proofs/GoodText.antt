@@ -22,13 +22,13 @@ use Rattle.file_laws.proofs.Written.{and-both}
 use Rattle.state.specs.declared.Text.{Text}
 use Rattle.rules.specs.World.{World, rows, port}
 use Rattle.rules.specs.Fonts.{Opened, opened, shut, openedAt, openFont}
-use Rattle.rules.specs.Text.{atPoint, home, withFont, withWrap, withScroll, withMetrics, placeX, placeY, Place, place, nowhere, wrapped, roomFor, movedUp, glyphAt, glyphOn, characterIn, character, fontChosen, chooseFont, placeIn, setPlace}
+use Rattle.rules.specs.Text.{atPoint, home, withFont, withWrap, withScroll, withMetrics, placeX, placeY, Place, place, nowhere, wrapped, fitted, movedUp, glyphAt, glyphOn, characterIn, character, fontChosen, chooseFont, placeIn, setPlace}
 use Rattle.rules.specs.Sound.{Bytes}
-use Rattle.rules.proofs.Good.{TextGood, ScreenGood, Parts, rows-are, put-screen, put-text, Leaves, passes}
+use Rattle.rules.proofs.Good.{TextGood, FramebufferGood, Parts, rows-are, put-framebuffer, put-text, Leaves, passes}
 
--- ---- the screen: every painter makes bytes, as many as there were
+-- ---- the framebuffer: every painter makes bytes, as many as there were
 
-pub painted-good : {n : ℕ} {g : List ℕ} → ScreenGood n g → (f : ℕ → ℕ → Bool → Bool) → ScreenGood n (repaint f g)
+pub painted-good : {n : ℕ} {g : List ℕ} → FramebufferGood n g → (f : ℕ → ℕ → Bool → Bool) → FramebufferGood n (repaint f g)
 painted-good {n} {g} s f = record { bytes = bytes-repaint f g; long = length-repaint f g ∙ s .long }
 
 -- ---- the text point and its settings
@@ -66,14 +66,14 @@ font-numbered : (h : ℕ) (s : List ℕ) (i : ℕ) → Numbered (openFont h s i)
 unfolding openFont
 font-numbered h s i = by-test Numbered (eqb i 1) _ _ (λ _. tt) (λ _. found-numbered h (findOf s 1 i) s)
 
--- ---- places: a character ends at column 240 at most, and its row is on the screen
+-- ---- places: a character ends at column 240 at most, and its row is on the framebuffer
 
 abbrev Placed : ℕ → ℕ → Place → Type 0
 Placed h v nowhere = Unit {0}
 Placed h v (place x y up) = (x + v ≤ 240) × (y ≤ h)
 
-room-placed : (h v f : ℕ) (p : Place) → Placed h v (roomFor h v f p)
-unfolding roomFor
+room-placed : (h v f : ℕ) (p : Place) → Placed h v (fitted h v f p)
+unfolding fitted
 room-placed h v f nowhere = tt
 room-placed h v f (place x y up) =
     by-test (Placed h v) (leb (x + v) 240 && leb (y + f) h) _ _
@@ -107,20 +107,20 @@ module _ {n m : ℕ} {w : World} (p : Parts n m w) where
   unfolding setPlace
   place-good c r = placing c r (openFont (rows w) (w .store) (port w .text .font)) (font-numbered (rows w) (w .store) (port w .text .font))
 
-  raised-good : (up : ℕ) → ScreenGood n (movedUp up (w .screen))
-  raised-good up = by-test (ScreenGood n) (eqb up 0) _ _ (λ _. p .screen) (λ _. painted-good (p .screen) _)
+  raised-good : (up : ℕ) → FramebufferGood n (movedUp up (w .framebuffer))
+  raised-good up = by-test (FramebufferGood n) (eqb up 0) _ _ (λ _. p .framebuffer) (λ _. painted-good (p .framebuffer) _)
 
   glyph-at : (f : List ℕ) (o v t : ℕ) (q : Place) → Placed (rows w) v q → Leaves n m (glyphAt w f o v t q)
   unfolding glyphAt
   glyph-at f o v t nowhere h = omega arith
   glyph-at f o v t (place x y up) h =
-      put-text (put-screen p (painted-good (raised-good up) _))
+      put-text (put-framebuffer p (painted-good (raised-good up) _))
       (at-point (p .port-good .text) (x + v + port w .text .«char_space») y (omega (arith, h .0, p .port-good .text .fits .char-space)) (omega (arith, h .1, rows-are p, p .low)))
 
   glyph-on : (f : List ℕ) (g : Glyph) → Leaves n m (glyphOn w f g)
   unfolding glyphOn
   glyph-on f the-variants.Missing = omega arith
-  glyph-on f (the-variants.At o v t) = glyph-at f o v t (roomFor (rows w) v t (wrapped (port w .text) v t)) (room-placed (rows w) v t (wrapped (port w .text) v t))
+  glyph-on f (the-variants.At o v t) = glyph-at f o v t (fitted (rows w) v t (wrapped (port w .text) v t)) (room-placed (rows w) v t (wrapped (port w .text) v t))
 
   in-font : (c : ℕ) (o : Opened) → Numbered o → Leaves n m (characterIn w c o)
   unfolding characterIn

@@ -19,7 +19,7 @@ use Rattle.bar_ledger.proofs.Keep.{Obeys, barBy}
 use Rattle.opened_font.specs.declared.Glyph.the-variants
 use Rattle.state.specs.declared.BarSlot.{BarSlot}
 use Rattle.state.specs.State.{noBar, barSlot, barAt, withBars}
-use Rattle.rules.specs.World.{World, port, panel, withScreen, withPanel, Outcome, done, refused, refuseIf}
+use Rattle.rules.specs.World.{World, port, panel, withFramebuffer, withPanel, Outcome, done, refused, refuseIf}
 use Rattle.rules.specs.Events.{view}
 
 -- v comes of w by the event e
@@ -38,14 +38,14 @@ Obeying w e (refused n r) = Unit {0}
 pub passes : (w : World) (e : Event) (bad : Bool) (n : ℕ) (o : Outcome) → (bad ≡ false → Obeying w e o) → Obeying w e (refuseIf bad n o)
 passes w e bad n o f = by-test (Obeying w e) bad (refused n []) o (λ _. tt) f
 
--- bars as they were, and as many strips; the screen keeps to a footprint, or stays
+-- bars as they were, and as many strips; the framebuffer keeps to a footprint, or stays
 module _ (w v : World) (same : panel v .bars ≡ panel w .bars) (many : length (panel v .strips) ≡ length (panel w .strips))
     (counts : port v .refusals ≡ port w .refusals) where
-  pub fair-painted : (f : Region) → SameOutside f (w .screen) (v .screen) → Fair w (painted f) v
+  pub fair-painted : (f : Region) → SameOutside f (w .framebuffer) (v .framebuffer) → Fair w (painted f) v
   unfolding barBy
   fair-painted f s = record { obeys = record { paints = s; bars = λ i. rw same }; bars = rw same; strips = many; refusals = counts }
 
-  pub fair-quiet : v .screen ≡ w .screen → Fair w quiet v
+  pub fair-quiet : v .framebuffer ≡ w .framebuffer → Fair w quiet v
   unfolding barBy
   fair-quiet s = record { obeys = record { paints = s; bars = λ i. rw same }; bars = rw same; strips = many; refusals = counts }
 
@@ -70,7 +70,7 @@ module _ (w : World) (n : ℕ) (h : n < length (panel w .bars)) where
       }
 
   pub fair-wrote : (a : ℕ) → Fair w (wrote n a)
-      (withPanel (withScreen w (writeOf (barAt (panel w) n .bar) a (w .screen))) (withBars (panel w) (set (panel w .bars) n (barSlot true (writtenBar (barAt (panel w) n .bar) a)))))
+      (withPanel (withFramebuffer w (writeOf (barAt (panel w) n .bar) a (w .framebuffer))) (withBars (panel w) (set (panel w .bars) n (barSlot true (writtenBar (barAt (panel w) n .bar) a)))))
   unfolding barBy
   fair-wrote a =
       record {

@@ -10,7 +10,7 @@ use Rattle.rules.specs.World.{World, refused, port, panel}
 use Rattle.rules.specs.Step.{outcome, refuse, after, step, replies}
 
 pub record Unaltered (w v : World) (n : ℕ) : Type 0 where
-  pub screen : v .screen ≡ w .screen
+  pub framebuffer : v .framebuffer ≡ w .framebuffer
   pub store : v .store ≡ w .store
   pub panel-same : panel v ≡ panel w
   pub text : port v .text ≡ port w .text
@@ -25,7 +25,7 @@ pub refuse-alters : (w : World) (n : ℕ) → Unaltered w (refuse w n) n
 unfolding refuse
 refuse-alters w n =
     record {
-      screen = refl;
+      framebuffer = refl;
       store = refl;
       panel-same = refl;
       text = refl;

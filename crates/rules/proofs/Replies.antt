@@ -23,13 +23,13 @@ use Rattle.state.specs.declared.Phase.{Phase}
 use Rattle.state.specs.declared.Phase.the-variants.{Idle, Prefix, Gathering, Inline, Upload}
 use Rattle.state.specs.State.{barAt, stripAt}
 use Rattle.state.specs.Commands.{commandOf, argumentsOf}
-use Rattle.rules.specs.World.{World, rows, port, panel, withScreen, putText, Outcome, done, refused, quietly, refuseIf, arg}
+use Rattle.rules.specs.World.{World, rows, port, panel, withFramebuffer, putText, Outcome, done, refused, quietly, refuseIf, arg}
 use Rattle.rules.specs.Fonts.{Opened, opened, shut, openFont}
-use Rattle.rules.specs.Text.{Place, place, nowhere, atPoint, placeX, placeY, wrapped, roomFor, fontChosen, chooseFont, placeIn, setPlace, glyphAt, glyphOn, characterIn, character}
+use Rattle.rules.specs.Text.{Place, place, nowhere, atPoint, placeX, placeY, wrapped, fitted, fontChosen, chooseFont, placeIn, setPlace, glyphAt, glyphOn, characterIn, character}
 use Rattle.rules.specs.Drawing.{ordered, clear, setColour, drawPixel, drawLine, drawFrame, fillRectangle}
-use Rattle.rules.specs.Bars.{onScreen, apart, setUpBar, writeBar, setUpStrip, shiftStrip}
+use Rattle.rules.specs.Bars.{inBounds, apart, setUpBar, writeBar, setUpStrip, shiftStrip}
 use Rattle.rules.specs.Pictures.{inPhase, bitmapIn, bitmapAt, showBitmap, beginInline, inlineData}
-use Rattle.rules.specs.Files.{inUse, noRoom, confirmed, tellIf, beginUpload, uploadData, deleteFile, purge}
+use Rattle.rules.specs.Files.{inUse, lacksSpace, confirmed, tellIf, beginUpload, uploadData, deleteFile, purge}
 use Rattle.rules.specs.Settings.{flowOn, flowOff, setContrast, backlightOn, backlightOff, setSerial}
 use Rattle.rules.specs.Step.{obey, outside, code, noBitmap, argument, alone, byPhase, sent, step, replies}
 use Rattle.rules.specs.Calls.{said, taken}
@@ -70,7 +70,7 @@ glyph-brief w f o v t (place x y up) = silent _
 on-brief : (w : World) (f : List ℕ) (g : Glyph) → Brief (glyphOn w f g)
 unfolding glyphOn
 on-brief w f glyph.Missing = mute _
-on-brief w f (glyph.At o v t) = glyph-brief w f o v t (roomFor (rows w) v t (wrapped (port w .text) v t))
+on-brief w f (glyph.At o v t) = glyph-brief w f o v t (fitted (rows w) v t (wrapped (port w .text) v t))
 
 in-brief : (w : World) (c : ℕ) (o : Opened) → Brief (characterIn w c o)
 unfolding characterIn
@@ -100,11 +100,11 @@ unfolding bitmapAt bitmapIn
 bitmap-brief w Nothing x y = mute _
 bitmap-brief w (At p a z) x y =
     let f = take z (drop a (w .store)) in
-    brief-if (not (isBitmap f)) 23 _ (silent (withScreen w (packedBox x y (bitmapWidth f) (bitmapHeight f) (drop 2 f) (w .screen))))
+    brief-if (not (isBitmap f)) 23 _ (silent (withFramebuffer w (packedBox x y (bitmapWidth f) (bitmapHeight f) (drop 2 f) (w .framebuffer))))
 
 upload-brief : (w : World) (k n z : ℕ) → Brief (beginUpload w k n z)
 unfolding beginUpload
-upload-brief w k n z = brief-tell (inUse (w .store) k n) 25 _ (brief-tell (noRoom (w .store) z) 24 _ (one (inPhase w (Upload k n z 0 false 0)) 1))
+upload-brief w k n z = brief-tell (inUse (w .store) k n) 25 _ (brief-tell (lacksSpace (w .store) z) 24 _ (one (inPhase w (Upload k n z 0 false 0)) 1))
 
 serial-brief : (w : World) (a b : ℕ) → Brief (setSerial w a b)
 unfolding setSerial
@@ -135,10 +135,10 @@ obey-brief ContinueLine a w = silent _
 obey-brief DrawFrame a w = brief-if (not (ordered (arg a 1) (arg a 2) (arg a 3) (arg a 4))) 18 _ (silent _)
 obey-brief FillRectangle a w = brief-if (not (ordered (arg a 1) (arg a 2) (arg a 3) (arg a 4))) 18 _ (silent _)
 obey-brief SetUpBar a w =
-    brief-if (leb 16 (arg a 0)) 19 _ (brief-if (leb 4 (arg a 1)) 20 _ (brief-if (not (onScreen w (arg a 2) (arg a 3) (arg a 4) (arg a 5))) 17 _ (brief-if (not (apart (arg a 2) (arg a 3) (arg a 4) (arg a 5))) 18 _ (silent _))))
+    brief-if (leb 16 (arg a 0)) 19 _ (brief-if (leb 4 (arg a 1)) 20 _ (brief-if (not (inBounds w (arg a 2) (arg a 3) (arg a 4) (arg a 5))) 17 _ (brief-if (not (apart (arg a 2) (arg a 3) (arg a 4) (arg a 5))) 18 _ (silent _))))
 obey-brief WriteBar a w = brief-if (leb 16 (arg a 0)) 19 _ (brief-if (not (barAt (panel w) (arg a 0) .on)) 21 _ (silent _))
 obey-brief SetUpStrip a w =
-    brief-if (leb 8 (arg a 0)) 19 _ (brief-if (not (onScreen w (arg a 1) (arg a 2) (arg a 3) (arg a 4))) 17 _ (brief-if (not (apart (arg a 1) (arg a 2) (arg a 3) (arg a 4))) 18 _ (silent _)))
+    brief-if (leb 8 (arg a 0)) 19 _ (brief-if (not (inBounds w (arg a 1) (arg a 2) (arg a 3) (arg a 4))) 17 _ (brief-if (not (apart (arg a 1) (arg a 2) (arg a 3) (arg a 4))) 18 _ (silent _)))
 obey-brief ShiftStrip a w = brief-if (leb 8 (arg a 0 % 128)) 19 _ (brief-if (not (stripAt (panel w) (arg a 0 % 128) .on)) 21 _ (silent _))
 obey-brief ShowBitmap a w = bitmap-brief w (findOf (w .store) 2 (arg a 0)) (arg a 1) (arg a 2)
 obey-brief DrawInline a w = brief-if (not (ordered (arg a 0) (arg a 1) (arg a 2) (arg a 3))) 18 _ (silent _)

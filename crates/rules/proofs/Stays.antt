@@ -26,11 +26,11 @@ use Rattle.state.specs.Soundness.{soundPhase, soundInline, soundUpload}
 use Rattle.state.specs.Commands.{commandOf, argumentsOf}
 use Rattle.rules.specs.World.{World, rows, port, panel, Outcome, done, refused, refuseIf, arg}
 use Rattle.rules.specs.Fonts.{Opened, opened, shut, openFont}
-use Rattle.rules.specs.Text.{placeX, placeY, Place, place, nowhere, wrapped, roomFor, glyphAt, glyphOn, characterIn, character, fontChosen, chooseFont, placeIn, setPlace}
+use Rattle.rules.specs.Text.{placeX, placeY, Place, place, nowhere, wrapped, fitted, glyphAt, glyphOn, characterIn, character, fontChosen, chooseFont, placeIn, setPlace}
 use Rattle.rules.specs.Drawing.{ordered, clear, setColour, drawPixel, drawLine, drawFrame, fillRectangle}
-use Rattle.rules.specs.Bars.{onScreen, apart, setUpBar, writeBar, setUpStrip, shiftStrip}
+use Rattle.rules.specs.Bars.{inBounds, apart, setUpBar, writeBar, setUpStrip, shiftStrip}
 use Rattle.rules.specs.Pictures.{bitmapIn, bitmapAt, showBitmap, beginInline, inlineData}
-use Rattle.rules.specs.Files.{inUse, noRoom, beginUpload, confirmed, uploadData, deleteFile, purge}
+use Rattle.rules.specs.Files.{inUse, lacksSpace, beginUpload, confirmed, uploadData, deleteFile, purge}
 use Rattle.rules.specs.Settings.{flowOn, flowOff, setContrast, backlightOn, backlightOff, setSerial}
 use Rattle.rules.specs.Step.{obey, outside, code, noBitmap, argument, alone, byPhase, outcome, refuse, after, step}
 use Rattle.rules.specs.Sound.{Good}
@@ -100,7 +100,7 @@ module _ {m : ℕ} (w : World) (good-store : StoreGood m (w .store)) (k n : ℕ)
   glyph-on : (f : List ℕ) (g : Glyph) → Keeps (glyphOn w f g)
   unfolding glyphOn
   glyph-on f the-variants.Missing = tt
-  glyph-on f (the-variants.At o v t) = glyph-at f o v t (roomFor (rows w) v t (wrapped (port w .text) v t))
+  glyph-on f (the-variants.At o v t) = glyph-at f o v t (fitted (rows w) v t (wrapped (port w .text) v t))
 
   in-font : (c : ℕ) (o : Opened) → Keeps (characterIn w c o)
   unfolding characterIn
@@ -121,7 +121,7 @@ module _ {m : ℕ} (w : World) (good-store : StoreGood m (w .store)) (k n : ℕ)
   upload-stays : (j i z : ℕ) → Keeps (beginUpload w j i z)
   unfolding beginUpload
   upload-stays j i z =
-      by-test (Staying (w .store) k n) (inUse (w .store) j i) _ _ (λ _. tt) (λ _. by-test (Staying (w .store) k n) (noRoom (w .store) z) _ _ (λ _. tt) (λ _. same))
+      by-test (Staying (w .store) k n) (inUse (w .store) j i) _ _ (λ _. tt) (λ _. by-test (Staying (w .store) k n) (lacksSpace (w .store) z) _ _ (λ _. tt) (λ _. same))
 
   delete-stays : (t i : ℕ) → (eqb (t + 1) k && eqb i n) ≡ false → Keeps (deleteFile w t i)
   unfolding deleteFile
@@ -171,11 +171,11 @@ module _ {m : ℕ} (w : World) (good-store : StoreGood m (w .store)) (k n : ℕ)
   commands DrawFrame a h = unless (not (ordered (arg a 1) (arg a 2) (arg a 3) (arg a 4))) 18 _ (λ _. same)
   commands FillRectangle a h = unless (not (ordered (arg a 1) (arg a 2) (arg a 3) (arg a 4))) 18 _ (λ _. same)
   commands SetUpBar a h =
-      unless (leb 16 (arg a 0)) 19 _ (λ _. unless (leb 4 (arg a 1)) 20 _ (λ _. unless (not (onScreen w (arg a 2) (arg a 3) (arg a 4) (arg a 5))) 17 _ (λ _.
+      unless (leb 16 (arg a 0)) 19 _ (λ _. unless (leb 4 (arg a 1)) 20 _ (λ _. unless (not (inBounds w (arg a 2) (arg a 3) (arg a 4) (arg a 5))) 17 _ (λ _.
       unless (not (apart (arg a 2) (arg a 3) (arg a 4) (arg a 5))) 18 _ (λ _. same))))
   commands WriteBar a h = unless (leb 16 (arg a 0)) 19 _ (λ _. unless (not (barAt (panel w) (arg a 0) .on)) 21 _ (λ _. same))
   commands SetUpStrip a h =
-      unless (leb 8 (arg a 0)) 19 _ (λ _. unless (not (onScreen w (arg a 1) (arg a 2) (arg a 3) (arg a 4))) 17 _ (λ _.
+      unless (leb 8 (arg a 0)) 19 _ (λ _. unless (not (inBounds w (arg a 1) (arg a 2) (arg a 3) (arg a 4))) 17 _ (λ _.
       unless (not (apart (arg a 1) (arg a 2) (arg a 3) (arg a 4))) 18 _ (λ _. same)))
   commands ShiftStrip a h = unless (leb 8 (arg a 0 % 128)) 19 _ (λ _. unless (not (stripAt (panel w) (arg a 0 % 128) .on)) 21 _ (λ _. same))
   commands ShowBitmap a h = bitmap-at (findOf (w .store) 2 (arg a 0)) (arg a 1) (arg a 2)

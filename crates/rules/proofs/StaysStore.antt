@@ -15,7 +15,7 @@ use Rattle.file_laws.proofs.Append.{entries-more}
 use Rattle.file_laws.proofs.Kept.{entries-less, file-kept}
 use Rattle.file_laws.proofs.Rules.{room-for-one, file-more}
 use Rattle.file_laws.proofs.Meaning.{long-enough, append-means, delete-means, entries-stored, file-stored}
-use Rattle.rules.specs.Files.{noRoom}
+use Rattle.rules.specs.Files.{lacksSpace}
 use Rattle.rules.specs.Stays.{Spared, Stays}
 use Rattle.rules.proofs.Good.{StoreGood}
 use Rattle.rules.proofs.GoodStore.{isKind, room, kind-known}
@@ -45,7 +45,7 @@ unfolding hasFile
 has-left [] fs k n h = absurd (false≢true h)
 has-left (e ∷ es) fs k n h = or-then (isFile e k n) (hasFile es k n) (hasFile (es ++ fs) k n) (λ g. has-left es fs k n g) h
 
-pub stays-appended : {m : ℕ} {s : List ℕ} → StoreGood m s → (k n z : ℕ) → isKind k ≡ true → z < 65536 → noRoom s z ≡ false
+pub stays-appended : {m : ℕ} {s : List ℕ} → StoreGood m s → (k n z : ℕ) → isKind k ≡ true → z < 65536 → lacksSpace s z ≡ false
     → (k′ n′ : ℕ) → hasFile (entries s) k′ n′ ≡ true → Stays s (appended s (entry k n z)) k′ n′
 stays-appended {m} {s} g k n z i hz v k′ n′ h =
     let l = long-enough s (g .valid) in

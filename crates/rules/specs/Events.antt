@@ -24,22 +24,22 @@ use Rattle.state.specs.State.{barOf, barAt, stripAt}
 use Rattle.state.specs.Commands.{commandOf, argumentsOf}
 use Rattle.rules.specs.World.{World, rows, port, panel, Outcome, done, refused, arg}
 use Rattle.rules.specs.Fonts.{Opened, opened, shut, openFont}
-use Rattle.rules.specs.Text.{Place, place, nowhere, wrapped, roomFor}
+use Rattle.rules.specs.Text.{Place, place, nowhere, wrapped, fitted}
 use Rattle.rules.specs.Step.{outcome, noBitmap}
 
--- the screen and the bars
+-- the framebuffer and the bars
 abbrev pub view : World → View
-view w = record { screen = w .screen; bar = λ i. barAt (panel w) i .bar }
+view w = record { framebuffer = w .framebuffer; bar = λ i. barAt (panel w) i .bar }
 
--- ---- a character: its box, or the whole screen if it scrolls
+-- ---- a character: its box, or the whole framebuffer if it scrolls
 
 abbrev pub placeEvent : ℕ → ℕ → Place → Event
-placeEvent v f nowhere = quiet
-placeEvent v f (place x y up) = painted (cond (eqb up 0) (box x (x + v) y (y + f)) everywhere)
+placeEvent wide tall nowhere = quiet
+placeEvent wide tall (place x y up) = painted (cond (eqb up 0) (box x (x + wide) y (y + tall)) everywhere)
 
 abbrev pub glyphEvent : World → List ℕ → Glyph → Event
 glyphEvent w f the-variants.Missing = quiet
-glyphEvent w f (the-variants.At o v t) = placeEvent v t (roomFor (rows w) v t (wrapped (port w .text) v t))
+glyphEvent w f (the-variants.At offset wide tall) = placeEvent wide tall (fitted (rows w) wide tall (wrapped (port w .text) wide tall))
 
 abbrev pub fontEvent : World → ℕ → Opened → Event
 fontEvent w c (shut r) = quiet
@@ -52,8 +52,8 @@ characterEvent w c = fontEvent w c (openFont (rows w) (w .store) (port w .text .
 
 abbrev pub bitmapEvent : List ℕ → Found → ℕ → ℕ → Event
 bitmapEvent s Nothing x y = quiet
-bitmapEvent s (At p a z) x y =
-    painted (box x (x + bitmapWidth (take z (drop a s))) y (y + bitmapHeight (take z (drop a s))))
+bitmapEvent s (At position start size) x y =
+    painted (box x (x + bitmapWidth (take size (drop start s))) y (y + bitmapHeight (take size (drop start s))))
 
 -- clear: everything. Pixel, line, frame: their pixels. Solid, strip: the rectangle. Saved bitmap: its box. Data in line: its rectangle, at the last corner too
 unfoldable pub meaning : Command → List ℕ → World → Event
@@ -97,10 +97,11 @@ meaning SetSerial a w = quiet
 unfoldable pub meant : Phase → World → ℕ → Event
 meant Idle w b = cond (eqb b 254) quiet (characterEvent w b)
 meant Prefix w b = cond (eqb (argumentsOf (commandOf b)) 0) (meaning (commandOf b) [] w) quiet
-meant (Gathering c g) w b =
-    cond (noBitmap w c g b) quiet (cond (ltb (g + 1) (argumentsOf (commandOf c))) quiet (meaning (commandOf c) (set (port w .args) g b) w))
-meant (Inline x1 y1 x2 y2 d) w b = painted (rectangle x1 y1 x2 y2)
-meant (Upload k n z s v c) w b = quiet
+meant (Gathering code got) w b =
+    cond (noBitmap w code got b) quiet
+    (cond (ltb (got + 1) (argumentsOf (commandOf code))) quiet (meaning (commandOf code) (set (port w .args) got b) w))
+meant (Inline x1 y1 x2 y2 came) w b = painted (rectangle x1 y1 x2 y2)
+meant (Upload kind number size stored waiting byte) w b = quiet
 
 abbrev pub unlessRefused : Outcome → Event → Event
 unlessRefused (done v r) e = e

@@ -4,6 +4,7 @@ use mathlib.Core.List.{[], _∷_}
 use mathlib.Core.Bool.{Bool, true, false, cond}
 use Prim.Native.Nat.{ℕ, _+_}
 use lib.Dec.{leb}
+use Rattle.refusals.specs.Refusals.{badWatermarks}
 use Rattle.queue.specs.declared.Flow.{Flow}
 use Rattle.state.specs.declared.Serial.{Serial}
 use Rattle.state.specs.declared.Backlight.{Backlight}
@@ -15,7 +16,7 @@ flow on full empty = record { on = on; full = full; empty = empty }
 
 -- 27: thresholds that sum to 80 or more
 unfoldable pub flowOn : World → ℕ → ℕ → Outcome
-flowOn w full empty = refuseIf (leb 80 (full + empty)) 27 (quietly (withPort w (withFlow (port w) (flow true full empty))))
+flowOn w full empty = refuseIf (leb 80 (full + empty)) badWatermarks (quietly (withPort w (withFlow (port w) (flow true full empty))))
 
 -- the thresholds stay
 unfoldable pub flowOff : World → Outcome

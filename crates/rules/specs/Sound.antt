@@ -20,7 +20,7 @@ use Rattle.state.specs.declared.Panel.{Panel}
 use Rattle.state.specs.State.{barAt, stripAt}
 use Rattle.state.specs.Soundness.{soundState}
 use Rattle.rules.specs.World.{World, rows, port, panel}
-use Rattle.rules.specs.Files.{inUse, noRoom}
+use Rattle.rules.specs.Files.{inUse, lacksSpace}
 
 -- every number of a list is a byte; behind its end it reads 0
 abbrev pub Bytes : List ℕ → Type 0
@@ -28,13 +28,12 @@ Bytes l = (i : ℕ) → getD l i 0 < 256
 
 -- ---- the port: every field fits its type
 
--- a code and how many; two corners and how many; kind, number, size, stored, byte
 abbrev pub PhaseFits : Phase → Type 0
 PhaseFits Idle = Unit {0}
 PhaseFits Prefix = Unit {0}
-PhaseFits (Gathering c g) = (c < 256) × (g < 256)
-PhaseFits (Inline x1 y1 x2 y2 d) = (x1 < 256) × (y1 < 256) × (x2 < 256) × (y2 < 256) × (d < 65536)
-PhaseFits (Upload k n z s v c) = (k < 256) × (n < 256) × (z < 65536) × (s < 65536) × (c < 256)
+PhaseFits (Gathering code got) = (code < 256) × (got < 256)
+PhaseFits (Inline x1 y1 x2 y2 came) = (x1 < 256) × (y1 < 256) × (x2 < 256) × (y2 < 256) × (came < 65536)
+PhaseFits (Upload kind number size stored waiting byte) = (kind < 256) × (number < 256) × (size < 65536) × (stored < 65536) × (byte < 256)
 
 pub record ArgsFit (a : List ℕ) : Type 0 where
   pub six : length a ≡ 6
@@ -99,15 +98,15 @@ pub record PanelFits (q : Panel) : Type 0 where
   pub contrast : q .contrast < 256
   pub minutes : q .backlight .minutes < 256
 
--- ---- the store and the screen
+-- ---- the store and the framebuffer
 
 pub record StoreKeeps (s : List ℕ) : Type 0 where
   pub bytes : Bytes s
   pub valid : validOf s ≡ true
 
 -- the number of rows is a byte too
-pub record ScreenFits (w : World) : Type 0 where
-  pub bytes : Bytes (w .screen)
+pub record FramebufferFits (w : World) : Type 0 where
+  pub bytes : Bytes (w .framebuffer)
   pub low : rows w < 256
 
 -- ---- an upload under way would now get neither 25 nor 24
@@ -115,9 +114,9 @@ pub record ScreenFits (w : World) : Type 0 where
 abbrev pub Welcome : Phase → List ℕ → Type 0
 Welcome Idle s = Unit {0}
 Welcome Prefix s = Unit {0}
-Welcome (Gathering c g) s = Unit {0}
-Welcome (Inline x1 y1 x2 y2 d) s = Unit {0}
-Welcome (Upload k n z t v c) s = (inUse s k n ≡ false) × (noRoom s z ≡ false)
+Welcome (Gathering code got) s = Unit {0}
+Welcome (Inline x1 y1 x2 y2 came) s = Unit {0}
+Welcome (Upload kind number size stored waiting byte) s = (inUse s kind number ≡ false) × (lacksSpace s size ≡ false)
 
 -- GOOD
 pub record Good (w : World) : Type 0 where
@@ -125,5 +124,5 @@ pub record Good (w : World) : Type 0 where
   pub port-fits : PortFits (port w)
   pub panel-fits : PanelFits (panel w)
   pub store : StoreKeeps (w .store)
-  pub screen : ScreenFits w
+  pub framebuffer : FramebufferFits w
   pub upload : Welcome (port w .phase) (w .store)

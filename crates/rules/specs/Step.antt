@@ -5,7 +5,9 @@ use mathlib.Core.Bool.{Bool, true, false, cond, not, _&&_}
 use Prim.Native.Nat.{ℕ, _+_, _*_, _%_}
 use lib.Dec.{eqb, ltb}
 use lib.ListN.{set}
-use Rattle.directory.specs.Directory.{entries, hasFile}
+use Rattle.refusals.specs.Refusals.{unknownCommand}
+use Rattle.directory.specs.declared.Found.the-variants.{Nothing}
+use Rattle.directory.specs.Directory.{entries, hasFile, foundNumber}
 use Rattle.state.specs.declared.Command.{Command}
 use Rattle.state.specs.declared.Command.the-variants.{Unknown, Clear, Home, SetPoint, SetPlace, WrapOn, WrapOff, ScrollOn, ScrollOff, ChooseFont, SetMetrics, SetColour, DrawPixel, DrawLine, ContinueLine, DrawFrame, FillRectangle, SetUpBar, WriteBar, SetUpStrip, ShiftStrip, ShowBitmap, DrawInline, UploadFont, UploadBitmap, DeleteFile, Purge, FlowOn, FlowOff, SetContrast, BacklightOn, BacklightOff, SetSerial}
 use Rattle.state.specs.declared.Phase.{Phase}
@@ -23,7 +25,7 @@ use Rattle.rules.specs.Settings.{flowOn, flowOff, setContrast, backlight
 
 -- EVERY COMMAND, with its fixed arguments
 unfoldable pub obey : Command → List ℕ → World → Outcome
-obey Unknown a w = refused 16 []
+obey Unknown a w = refused unknownCommand []
 obey Clear a w = clear w
 obey Home a w = quietly (putText w (home (port w .text)))
 obey SetPoint a w = quietly (putText w (atPoint (port w .text) (arg a 0) (arg a 1)))
@@ -66,14 +68,14 @@ code w b = cond (eqb (argumentsOf (commandOf b)) 0) (obey (commandOf b) [] (outs
 
 -- a saved bitmap's number that the directory does not have ends its command
 abbrev pub noBitmap : World → ℕ → ℕ → ℕ → Bool
-noBitmap w c g b = eqb c 98 && eqb g 0 && not (hasFile (entries (w .store)) 2 b)
+noBitmap w code got b = eqb code 98 && eqb got 0 && not (hasFile (entries (w .store)) 2 b)
 
 -- an argument, the last one or not
 unfoldable pub argument : World → ℕ → ℕ → ℕ → Outcome
-argument w c g b =
-    refuseIf (noBitmap w c g b) 22
-    (cond (ltb (g + 1) (argumentsOf (commandOf c))) (quietly (withPort w (withPhase (port w) (Gathering c (g + 1)) (set (port w .args) g b))))
-    (obey (commandOf c) (set (port w .args) g b) (outside w)))
+argument w code got b =
+    refuseIf (noBitmap w code got b) (foundNumber Nothing)
+    (cond (ltb (got + 1) (argumentsOf (commandOf code))) (quietly (withPort w (withPhase (port w) (Gathering code (got + 1)) (set (port w .args) got b))))
+    (obey (commandOf code) (set (port w .args) got b) (outside w)))
 
 -- 254 begins a command; any other byte is a character
 unfoldable pub alone : World → ℕ → Outcome
@@ -82,9 +84,9 @@ alone w b = cond (eqb b 254) (quietly (inPhase w Prefix)) (character w b)
 unfoldable pub byPhase : Phase → World → ℕ → Outcome
 byPhase Idle w b = alone w b
 byPhase Prefix w b = code w b
-byPhase (Gathering c g) w b = argument w c g b
-byPhase (Inline x1 y1 x2 y2 d) w b = inlineData w x1 y1 x2 y2 d b
-byPhase (Upload k n z s v c) w b = uploadData w k n z s v c b
+byPhase (Gathering code got) w b = argument w code got b
+byPhase (Inline x1 y1 x2 y2 came) w b = inlineData w x1 y1 x2 y2 came b
+byPhase (Upload kind number size stored waiting byte) w b = uploadData w kind number size stored waiting byte b
 
 abbrev pub outcome : World → ℕ → Outcome
 outcome w b = byPhase (port w .phase) w b

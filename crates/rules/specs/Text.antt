@@ -5,22 +5,23 @@ use mathlib.Core.Bool.{Bool, cond, not, _&&_, _||_}
 use Prim.Native.Nat.{ℕ, _+_, _-_, _*_}
 use lib.Dec.{eqb, leb}
 use lib.ListN.{drop}
+use Rattle.refusals.specs.Refusals.{outOfBounds, glyphDoesNotFit, accepted}
 use Rattle.pixels.specs.Framebuffer.{width}
 use Rattle.bitmap.specs.Bitmaps.{packedBox}
 use Rattle.scroll.specs.Scroll.{scrolled}
 use Rattle.fonts.specs.Fonts.{nominalWidth, heightOf}
 use Rattle.opened_font.specs.declared.Glyph.{Glyph}
 use Rattle.opened_font.specs.declared.Glyph.the-variants.{At, Missing}
-use Rattle.opened_font.specs.Glyphs.{glyphOf}
+use Rattle.opened_font.specs.Glyphs.{glyphOf, glyphNumber}
 use Rattle.state.specs.declared.Text.{Text}
-use Rattle.rules.specs.World.{World, rows, port, withScreen, putText, Outcome, quietly, refused, refuseIf, arg}
+use Rattle.rules.specs.World.{World, rows, port, withFramebuffer, putText, Outcome, quietly, refused, refuseIf, arg}
 use Rattle.rules.specs.Fonts.{Opened, opened, shut, openFont}
 
 -- ---- settings
 
 abbrev pub textOf : ℕ → ℕ → ℕ → ℕ → ℕ → ℕ → ℕ → ℕ → Bool → Bool → Text
-textOf f x y l t cs ls sr w s =
-    record { font = f; x = x; y = y; left = l; top = t; «char_space» = cs; «line_space» = ls; «scroll_row» = sr; wrap = w; scroll = s }
+textOf font x y left top charSpace lineSpace scrollRow wrap scroll =
+    record { font = font; x = x; y = y; left = left; top = top; «char_space» = charSpace; «line_space» = lineSpace; «scroll_row» = scrollRow; wrap = wrap; scroll = scroll }
 
 abbrev pub atPoint : Text → ℕ → ℕ → Text
 atPoint t x y = textOf (t .font) x y (t .left) (t .top) (t .«char_space») (t .«line_space») (t .«scroll_row») (t .wrap) (t .scroll)
@@ -62,7 +63,7 @@ placeY t f row = t .top + (row - 1) * (heightOf f + t .«line_space»)
 unfoldable pub placeIn : World → ℕ → ℕ → Opened → Outcome
 placeIn w column row (shut r) = refused r []
 placeIn w column row (opened f) =
-    refuseIf (eqb column 0 || eqb row 0 || leb width (placeX (port w .text) f column) || leb (rows w) (placeY (port w .text) f row)) 17
+    refuseIf (eqb column 0 || eqb row 0 || leb width (placeX (port w .text) f column) || leb (rows w) (placeY (port w .text) f row)) outOfBounds
     (quietly (putText w (atPoint (port w .text) (placeX (port w .text) f column) (placeY (port w .text) f row))))
 
 unfoldable pub setPlace : World → ℕ → ℕ → Outcome
@@ -70,38 +71,43 @@ setPlace w column row = placeIn w column row (openFont (rows w) (w .store) (port
 
 -- ---- characters
 
--- where a character goes, and by how many rows the screen moves up first; or nowhere
+-- where a character goes, and by how many rows the framebuffer moves up first; or nowhere
 pub data Place : Type 0 where
   place : ℕ → ℕ → ℕ → Place
   nowhere : Place
 
--- a character of width v in a font of height f that passes the last column: to the next line, on the screen moved up, or to the top
+-- 29: no room for the character
+abbrev pub placeNumber : Place → ℕ
+placeNumber (place x y up) = accepted
+placeNumber nowhere = glyphDoesNotFit
+
+-- a glyph, so wide and so tall, that passes the last column: to the next line, on the framebuffer moved up, or to the top
 unfoldable pub wrapped : Text → ℕ → ℕ → Place
-wrapped t v f =
-    cond (leb (t .x + v) width) (place (t .x) (t .y) 0)
+wrapped t wide tall =
+    cond (leb (t .x + wide) width) (place (t .x) (t .y) 0)
     (cond (not (t .wrap)) nowhere
-    (cond (leb (t .y + f + t .«line_space» + f) (t .«scroll_row»)) (place (t .left) (t .y + f + t .«line_space») 0)
-    (cond (t .scroll) (place (t .left) (t .y) (f + t .«line_space»))
+    (cond (leb (t .y + tall + t .«line_space» + tall) (t .«scroll_row»)) (place (t .left) (t .y + tall + t .«line_space») 0)
+    (cond (t .scroll) (place (t .left) (t .y) (tall + t .«line_space»))
     (place (t .left) (t .top) 0))))
 
--- if the box then passes the last column or the last row, there is no room
-unfoldable pub roomFor : ℕ → ℕ → ℕ → Place → Place
-roomFor h v f nowhere = nowhere
-roomFor h v f (place x y up) = cond (leb (x + v) width && leb (y + f) h) (place x y up) nowhere
+-- nowhere, too, if the box then passes the last column or the last of h rows
+unfoldable pub fitted : ℕ → ℕ → ℕ → Place → Place
+fitted h wide tall nowhere = nowhere
+fitted h wide tall (place x y up) = cond (leb (x + wide) width && leb (y + tall) h) (place x y up) nowhere
 
 abbrev pub movedUp : ℕ → List ℕ → List ℕ
 movedUp n g = cond (eqb n 0) g (scrolled n g)
 
 -- the box is painted, and x grows by width and character space: 29
 unfoldable pub glyphAt : World → List ℕ → ℕ → ℕ → ℕ → Place → Outcome
-glyphAt w f o v t nowhere = refused 29 []
-glyphAt w f o v t (place x y up) =
-    quietly (putText (withScreen w (packedBox x y v t (drop o f) (movedUp up (w .screen)))) (atPoint (port w .text) (x + v + port w .text .«char_space») y))
+glyphAt w f offset wide tall nowhere = refused (placeNumber nowhere) []
+glyphAt w f offset wide tall (place x y up) =
+    quietly (putText (withFramebuffer w (packedBox x y wide tall (drop offset f) (movedUp up (w .framebuffer)))) (atPoint (port w .text) (x + wide + port w .text .«char_space») y))
 
 -- 28
 unfoldable pub glyphOn : World → List ℕ → Glyph → Outcome
-glyphOn w f Missing = refused 28 []
-glyphOn w f (At o v t) = glyphAt w f o v t (roomFor (rows w) v t (wrapped (port w .text) v t))
+glyphOn w f Missing = refused (glyphNumber Missing) []
+glyphOn w f (At offset wide tall) = glyphAt w f offset wide tall (fitted (rows w) wide tall (wrapped (port w .text) wide tall))
 
 unfoldable pub characterIn : World → ℕ → Opened → Outcome
 characterIn w c (shut r) = refused r []

@@ -1,4 +1,4 @@
--- What a byte finds and leaves: the screen (the framebuffer; the rules paper says glass), the store and the state.
+-- What a byte finds and leaves: the framebuffer (the rules paper's glass), the store and the state.
 -- Assumes nothing.
 use mathlib.Core.List.{List, []}
 use mathlib.Core.Bool.{Bool, cond}
@@ -12,15 +12,15 @@ use Rattle.state.specs.declared.State.{State}
 use Rattle.state.specs.State.{state, withText}
 
 pub record World : Type 0 where
-  pub screen : List ℕ
+  pub framebuffer : List ℕ
   pub store : List ℕ
   pub state : State
 
 abbrev pub world : List ℕ → List ℕ → State → World
-world g s t = record { screen = g; store = s; state = t }
+world g s t = record { framebuffer = g; store = s; state = t }
 
 abbrev pub rows : World → ℕ
-rows w = height (w .screen)
+rows w = height (w .framebuffer)
 
 abbrev pub port : World → Port
 port w = w .state .port
@@ -28,17 +28,17 @@ port w = w .state .port
 abbrev pub panel : World → Panel
 panel w = w .state .panel
 
-abbrev pub withScreen : World → List ℕ → World
-withScreen w g = world g (w .store) (w .state)
+abbrev pub withFramebuffer : World → List ℕ → World
+withFramebuffer w g = world g (w .store) (w .state)
 
 abbrev pub withStore : World → List ℕ → World
-withStore w s = world (w .screen) s (w .state)
+withStore w s = world (w .framebuffer) s (w .state)
 
 abbrev pub withPort : World → Port → World
-withPort w p = world (w .screen) (w .store) (state p (panel w))
+withPort w p = world (w .framebuffer) (w .store) (state p (panel w))
 
 abbrev pub withPanel : World → Panel → World
-withPanel w q = world (w .screen) (w .store) (state (port w) q)
+withPanel w q = world (w .framebuffer) (w .store) (state (port w) q)
 
 abbrev pub putText : World → Text → World
 putText w t = withPort w (withText (port w) t)

@@ -9,39 +9,39 @@ ghost use Rattle.pixels.specs.Regions.{everywhere};
 ghost use Rattle.scroll.specs.Scroll.{scrolled, Moved};
 
 // Everything white.
-pub fn clear(fb: &mut [u8])
-    ensures { λ _. ⌜ now (fb .exit) ≡ fill everywhere false (now (fb .entry)) ⌝ }
+pub fn clear(framebuffer: &mut [u8])
+    ensures { λ _. ⌜ now (framebuffer .exit) ≡ fill everywhere false (now (framebuffer .entry)) ⌝ }
 {
     let mut i = 0;
-    while i < fb.len() {
-        fb[i] = 0;
+    while i < framebuffer.len() {
+        framebuffer[i] = 0;
         i += 1;
     }
 }
 
 // The n bytes from number `by` on, moved to the front.
-fn move_up(fb: &mut [u8], by: usize, n: usize)
-    requires { ⌜ n + by ≤ length (now fb) ⌝ }
-    ensures { λ _. ⌜ Moved by n (now (fb .entry)) (now (fb .exit)) ⌝ }
+fn move_up(framebuffer: &mut [u8], by: usize, n: usize)
+    requires { ⌜ n + by ≤ length (now framebuffer) ⌝ }
+    ensures { λ _. ⌜ Moved by n (now (framebuffer .entry)) (now (framebuffer .exit)) ⌝ }
 {
     let mut i = 0;
     while i < n {
-        fb[i] = fb[i + by];
+        framebuffer[i] = framebuffer[i + by];
         i += 1;
     }
 }
 
 // Up by so many rows, white below; all white where there are not so many.
-pub fn scroll_up(fb: &mut [u8], rows: u16)
-    ensures { λ _. ⌜ now (fb .exit) ≡ scrolled rows (now (fb .entry)) ⌝ }
+pub fn scroll_up(framebuffer: &mut [u8], rows: u16)
+    ensures { λ _. ⌜ now (framebuffer .exit) ≡ scrolled rows (now (framebuffer .entry)) ⌝ }
 {
     let by = STRIDE * (rows as usize);
-    let end = fb.len();
+    let end = framebuffer.len();
     if by < end {
         let kept = end - by;
-        move_up(fb, by, kept);
-        clear(&mut fb[kept..end]);
+        move_up(framebuffer, by, kept);
+        clear(&mut framebuffer[kept..end]);
     } else {
-        clear(fb);
+        clear(framebuffer);
     }
 }

@@ -1,6 +1,5 @@
 // Commands that only set something: flow control, contrast, backlight, serial number.
 use outcome::Outcome;
-use outcome::THRESHOLDS;
 use outcome::done;
 use outcome::refused;
 use outcome::sending;
@@ -9,6 +8,7 @@ use outcome::with_panel;
 use outcome::with_port;
 use queue::Flow;
 use queue::SIZE;
+use refusals::BAD_WATERMARKS;
 use state::Backlight;
 use state::Serial;
 use state::State;
@@ -27,7 +27,7 @@ pub fn flow_on(state: State, full: u8, empty: u8) -> Outcome
     ensures { λ r. ⌜ Sets (λ w. flowOn w full empty) state r ⌝ }
 {
     if wide(full) + wide(empty) >= SIZE {
-        return refused(state, THRESHOLDS);
+        return refused(state, BAD_WATERMARKS);
     }
     let flow = Flow {
         on: true,

@@ -38,11 +38,11 @@ fn blended(old: u8, mask: u8, byte: u8) -> u8
 }
 
 // Where a mask has a 1, the pixels of byte number `at` as those of `byte`; beyond the framebuffer nothing.
-fn blend(fb: &mut [u8], at: usize, mask: u8, byte: u8)
-    ensures { λ _. ⌜ now (fb .exit) ≡ put (masked at mask) (cellBits byte) (now (fb .entry)) ⌝ }
+fn blend(framebuffer: &mut [u8], at: usize, mask: u8, byte: u8)
+    ensures { λ _. ⌜ now (framebuffer .exit) ≡ put (masked at mask) (cellBits byte) (now (framebuffer .entry)) ⌝ }
 {
-    if at < fb.len() {
-        fb[at] = blended(fb[at], mask, byte);
+    if at < framebuffer.len() {
+        framebuffer[at] = blended(framebuffer[at], mask, byte);
     }
 }
 
@@ -58,25 +58,25 @@ pub fn cell_end(x: u16, x2: u16) -> u16
 }
 
 // Columns x up to, and not with, `end` of row y, all of one byte, from the highest of eight bits on.
-fn paint_part(fb: &mut [u8], x: u16, end: u16, y: u16, bits: u8)
+fn paint_part(framebuffer: &mut [u8], x: u16, end: u16, y: u16, bits: u8)
     requires { ⌜ (x < end) × (end ≤ 8 * (x / 8) + 8) × (x < 240) ⌝ }
-    ensures { λ _. ⌜ now (fb .exit) ≡ put (span x end y) (bitsFrom x bits) (now (fb .entry)) ⌝ }
+    ensures { λ _. ⌜ now (framebuffer .exit) ≡ put (span x end y) (bitsFrom x bits) (now (framebuffer .entry)) ⌝ }
 {
     let start = x % 8;
     let stop = end - (x - start);
     let right = (255u16 >> stop) as u8;
     let mask = (255u8 >> start) & !right;
-    blend(fb, cell(x, y), mask, bits >> start);
+    blend(framebuffer, cell(x, y), mask, bits >> start);
 }
 
 // Columns x up to, and not with, x2 of row y, as far as they are in the byte of column x, from the highest of eight bits on.
-pub fn paint_cell(fb: &mut [u8], x: u16, x2: u16, y: u16, bits: u8)
-    ensures { λ _. ⌜ now (fb .exit) ≡ put (span x (cellEnd x x2) y) (bitsFrom x bits) (now (fb .entry)) ⌝ }
+pub fn paint_cell(framebuffer: &mut [u8], x: u16, x2: u16, y: u16, bits: u8)
+    ensures { λ _. ⌜ now (framebuffer .exit) ≡ put (span x (cellEnd x x2) y) (bitsFrom x bits) (now (framebuffer .entry)) ⌝ }
 {
     let end = cell_end(x, x2);
     if x < end {
         if x < WIDTH {
-            paint_part(fb, x, end, y, bits);
+            paint_part(framebuffer, x, end, y, bits);
         }
     }
 }

@@ -17,7 +17,7 @@ use Rattle.state.specs.declared.Panel.{Panel}
 use Rattle.state.specs.declared.Serial.{Serial}
 use Rattle.state.specs.declared.State.{State}
 use Rattle.state.specs.Soundness.{inlineBytes, soundGathering, soundInline, soundUpload, soundPhase, gathered, allZero, soundPort}
-use Rattle.state.specs.Soundness.{onGlass, soundSetUp, blank, soundBar, soundStrip, soundBars, soundStrips, soundSerial, soundPanel, soundState}
+use Rattle.state.specs.Soundness.{soundCorners, soundSetUp, blank, soundBar, soundStrip, soundBars, soundStrips, soundSerial, soundPanel, soundState}
 
 pub product-fits : (a b : ℕ) → a ≤ 32 → b ≤ 256 → a * b ≤ 8192
 product-fits a b h k = mul-le-mul h k
@@ -71,7 +71,7 @@ module _ (h : ℕ) (s : BarSlot) (t : Bool) where
   bar-off o e = e ∙ rw o
 
 module _ (h : ℕ) (s : Strip) (t : Bool) where
-  pub strip-on : s .on ≡ true → t ≡ onGlass h (s .x1) (s .y1) (s .x2) (s .y2) → t ≡ soundStrip h s
+  pub strip-on : s .on ≡ true → t ≡ soundCorners h (s .x1) (s .y1) (s .x2) (s .y2) → t ≡ soundStrip h s
   unfolding soundStrip
   strip-on o e = e ∙ rw o
 

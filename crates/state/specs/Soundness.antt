@@ -1,4 +1,4 @@
--- When a state is sound, on a glass of h rows. Places that no field names just now (arguments not yet gathered, bars and strips that are not set up,
+-- When a state is sound, on a framebuffer of h rows. Places that no field names just now (arguments not yet gathered, bars and strips that are not set up,
 -- a serial number not stored, a byte not waiting) are 0, so that one state has one record.
 -- Assumes nothing.
 use mathlib.Core.List.{List, [], _∷_}
@@ -39,17 +39,17 @@ soundUpload k z s w b = (eqb k 1 || eqb k 2) && ltb s z && (w || eqb b 0)
 unfoldable pub soundPhase : Phase → Bool
 soundPhase Idle = true
 soundPhase Prefix = true
-soundPhase (Gathering c g) = soundGathering c g
-soundPhase (Inline x1 y1 x2 y2 d) = soundInline x1 y1 x2 y2 d
-soundPhase (Upload k n z s w b) = soundUpload k z s w b
+soundPhase (Gathering code got) = soundGathering code got
+soundPhase (Inline x1 y1 x2 y2 came) = soundInline x1 y1 x2 y2 came
+soundPhase (Upload kind number size stored waiting byte) = soundUpload kind size stored waiting byte
 
 -- how many arguments stand gathered
 abbrev pub gathered : Phase → ℕ
 gathered Idle = 0
 gathered Prefix = 0
-gathered (Gathering c g) = g
-gathered (Inline x1 y1 x2 y2 d) = 0
-gathered (Upload k n z s w b) = 0
+gathered (Gathering code got) = got
+gathered (Inline x1 y1 x2 y2 came) = 0
+gathered (Upload kind number size stored waiting byte) = 0
 
 unfoldable pub allZero : List ℕ → Bool
 allZero [] = true
@@ -59,13 +59,13 @@ unfoldable pub soundPort : Port → Bool
 soundPort p =
     soundPhase (p .phase) && allZero (drop (gathered (p .phase)) (p .args)) && leb (p .text .x) 495 && ltb (p .flow .full + p .flow .empty) 80
 
--- on the glass, with x1 < x2 and y1 < y2
-abbrev pub onGlass : ℕ → ℕ → ℕ → ℕ → ℕ → Bool
-onGlass h x1 y1 x2 y2 = ltb x1 x2 && ltb y1 y2 && ltb x2 width && ltb y2 h
+-- on the framebuffer, with x1 < x2 and y1 < y2
+abbrev pub soundCorners : ℕ → ℕ → ℕ → ℕ → ℕ → Bool
+soundCorners h x1 y1 x2 y2 = ltb x1 x2 && ltb y1 y2 && ltb x2 width && ltb y2 h
 
--- on the glass, its value at most its length, its type 0 to 3
+-- on the framebuffer, its value at most its length, its type 0 to 3
 unfoldable pub soundSetUp : ℕ → Bar → Bool
-soundSetUp h b = onGlass h (b .x1) (b .y1) (b .x2) (b .y2) && leb (b .value) (lengthOf b) && ltb (b .kind) 4
+soundSetUp h b = soundCorners h (b .x1) (b .y1) (b .x2) (b .y2) && leb (b .value) (lengthOf b) && ltb (b .kind) 4
 
 abbrev pub blank : Bar → Bool
 blank b = allZero (b .kind ∷ b .x1 ∷ b .y1 ∷ b .x2 ∷ b .y2 ∷ b .value ∷ [])
@@ -74,7 +74,7 @@ unfoldable pub soundBar : ℕ → BarSlot → Bool
 soundBar h s = cond (s .on) (soundSetUp h (s .bar)) (blank (s .bar))
 
 unfoldable pub soundStrip : ℕ → Strip → Bool
-soundStrip h s = cond (s .on) (onGlass h (s .x1) (s .y1) (s .x2) (s .y2)) (allZero (s .x1 ∷ s .y1 ∷ s .x2 ∷ s .y2 ∷ []))
+soundStrip h s = cond (s .on) (soundCorners h (s .x1) (s .y1) (s .x2) (s .y2)) (allZero (s .x1 ∷ s .y1 ∷ s .x2 ∷ s .y2 ∷ []))
 
 unfoldable pub soundBars : ℕ → List BarSlot → Bool
 soundBars h [] = true

@@ -46,9 +46,9 @@ barAt p n = getD (p .bars) n noBar
 abbrev pub stripAt : Panel → ℕ → Strip
 stripAt p n = getD (p .strips) n noStrip
 
--- ---- the start, for a glass of h rows
+-- ---- the start, for a framebuffer of h rows
 
--- font 1, margins 0, character space 0, line space 1, the scroll row at the glass's end, wrap and scroll on, text home
+-- font 1, margins 0, character space 0, line space 1, the scroll row at the framebuffer's end, wrap and scroll on, text home
 abbrev pub startText : ℕ → Text
 startText h =
     record { font = 1; x = 0; y = 0; left = 0; top = 0; «char_space» = 0; «line_space» = 1; «scroll_row» = h; wrap = true; scroll = true }

@@ -1,4 +1,4 @@
-// The state at the start, for a glass of `height` rows.
+// The state at the start, for a framebuffer of `height` rows.
 use super::ARGUMENTS;
 use super::BARS;
 use super::Backlight;

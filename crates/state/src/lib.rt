@@ -240,7 +240,7 @@ pub struct State {
     pub panel: Panel,
 }
 
-// Whether a state is sound, on a glass of `height` rows.
+// Whether a state is sound, on a framebuffer of `height` rows.
 pub fn is_sound(s: State, height: u8) -> bool
     ensures { λ r. ⌜ r ≡ soundState height s ⌝ }
 {

@@ -18,7 +18,7 @@ ghost use Prim.Native.Nat.{_+_, _*_, _<_, _≤_};
 ghost use lib.Dec.{ltb};
 ghost use lib.ListN.{drop};
 ghost use Rattle.state.specs.Soundness.{inlineBytes, soundGathering, soundInline, soundUpload, soundPhase, gathered, allZero, soundPort};
-ghost use Rattle.state.specs.Soundness.{onGlass, soundSetUp, blank, soundBar, soundStrip, soundBars, soundStrips, soundSerial, soundPanel};
+ghost use Rattle.state.specs.Soundness.{soundCorners, soundSetUp, blank, soundBar, soundStrip, soundBars, soundStrips, soundSerial, soundPanel};
 
 fn wide(x: u8) -> usize
     ensures { λ r. ⌜ (r ≡ x) × (r < 256) ⌝ }
@@ -170,8 +170,8 @@ pub fn is_port_sound(port: Port) -> bool
     both(placed, are_thresholds(port.flow.full, port.flow.empty))
 }
 
-fn is_on_glass(height: u8, x1: u8, y1: u8, x2: u8, y2: u8) -> bool
-    ensures { λ r. ⌜ r ≡ onGlass height x1 y1 x2 y2 ⌝ }
+fn are_corners_sound(height: u8, x1: u8, y1: u8, x2: u8, y2: u8) -> bool
+    ensures { λ r. ⌜ r ≡ soundCorners height x1 y1 x2 y2 ⌝ }
 {
     let ordered = both(x1 < x2, y1 < y2);
     both(both(ordered, x2 < 240), y2 < height)
@@ -180,7 +180,7 @@ fn is_on_glass(height: u8, x1: u8, y1: u8, x2: u8, y2: u8) -> bool
 fn is_set_up_sound(bar: Bar, height: u8) -> bool
     ensures { λ r. ⌜ r ≡ soundSetUp height bar ⌝ }
 {
-    let placed = is_on_glass(height, bar.x1, bar.y1, bar.x2, bar.y2);
+    let placed = are_corners_sound(height, bar.x1, bar.y1, bar.x2, bar.y2);
     let held = word(bar.value) <= length_of(bar);
     both(both(placed, held), bar.kind < 4)
 }
@@ -205,7 +205,7 @@ fn is_strip_sound(strip: Strip, height: u8) -> bool
     ensures { λ r. ⌜ r ≡ soundStrip height strip ⌝ }
 {
     if strip.on {
-        return is_on_glass(height, strip.x1, strip.y1, strip.x2, strip.y2);
+        return are_corners_sound(height, strip.x1, strip.y1, strip.x2, strip.y2);
     }
     is_zero_from([strip.x1, strip.y1, strip.x2, strip.y2, 0, 0], 0)
 }

@@ -20,7 +20,7 @@ use Rattle.state.specs.declared.State.{State}
 use Rattle.state.specs.State.{startText}
 use Rattle.rules.specs.World.{world, done, quietly, refused}
 use Rattle.rules.specs.Text.{withFont}
-use Rattle.rules.specs.Files.{inUse, noRoom, beginUpload, uploadData, deleteFile, purge}
+use Rattle.rules.specs.Files.{inUse, lacksSpace, beginUpload, uploadData, deleteFile, purge}
 use Rattle.outcome.specs.declared.Outcome.{Outcome}
 use Rattle.outcome.specs.declared.Reply.{Reply}
 use Rattle.outcome.specs.Outcome.{inPhaseOf, putTextOf, refusedState, sendingOf, oneByte}
@@ -60,23 +60,23 @@ other-number k n e h = record { differ = rw (eq-eqb k 1 e, ne-eqb n 1 h) }
 pub used-if-stored : (s : List ℕ) (k n : ℕ) (t : Bool) → Other k n → t ≡ hasFile (entries s) k n → t ≡ inUse s k n
 used-if-stored s k n t o e = rw (o .differ) e
 
-pub no-size : (s : List ℕ) (z : ℕ) → z ≡ 0 → true ≡ noRoom s z
+pub no-size : (s : List ℕ) (z : ℕ) → z ≡ 0 → true ≡ lacksSpace s z
 no-size s z e = rw e
 
-pub no-place : (s : List ℕ) (z : ℕ) (t : Totals) → (z ≡ 0 → ⊥) → t ≡ totalsOf (entries s) → 63 ≤ t .count → true ≡ noRoom s z
+pub no-place : (s : List ℕ) (z : ℕ) (t : Totals) → (z ≡ 0 → ⊥) → t ≡ totalsOf (entries s) → 63 ≤ t .count → true ≡ lacksSpace s z
 no-place s z t h e l =
     let c : t .count ≡ length (entries s) = ap (λ (u : Totals). u .count) e in
     rw (ne-eqb z 0 h, le-leb 63 (length (entries s)) (omega (arith, c)))
 
-pub no-bytes : (s : List ℕ) (z u : ℕ) (t : Totals) → (z ≡ 0 → ⊥) → t ≡ totalsOf (entries s) → t .count < 63 → u ≡ unusedOf s → ltb u z ≡ noRoom s z
+pub no-bytes : (s : List ℕ) (z u : ℕ) (t : Totals) → (z ≡ 0 → ⊥) → t ≡ totalsOf (entries s) → t .count < 63 → u ≡ unusedOf s → ltb u z ≡ lacksSpace s z
 no-bytes s z u t h e l f =
     let c : t .count ≡ length (entries s) = ap (λ (u : Totals). u .count) e in
     rw (ne-eqb z 0 h, lt-leb 63 (length (entries s)) (omega (arith, c)), f)
 
-pub away-used : (s : List ℕ) (k n z : ℕ) (t : Bool) → t ≡ inUse s k n → t ≡ true → true ≡ (inUse s k n || noRoom s z)
+pub away-used : (s : List ℕ) (k n z : ℕ) (t : Bool) → t ≡ inUse s k n → t ≡ true → true ≡ (inUse s k n || lacksSpace s z)
 away-used s k n z t e h = rw (← e, h)
 
-pub away-room : (s : List ℕ) (k n z : ℕ) (t u : Bool) → t ≡ inUse s k n → t ≡ false → u ≡ noRoom s z → u ≡ (inUse s k n || noRoom s z)
+pub away-room : (s : List ℕ) (k n z : ℕ) (t u : Bool) → t ≡ inUse s k n → t ≡ false → u ≡ lacksSpace s z → u ≡ (inUse s k n || lacksSpace s z)
 away-room s k n z t u e h f = f ∙ rw (← e, h)
 
 pub telling-is : (st n : State) (k : ℕ) (q : Reply) (r : Outcome) → n ≡ refusedState st k → q ≡ oneByte 8 → r ≡ sendingOf n q → r ≡ tellingOf st k
@@ -89,11 +89,11 @@ module _ (g s : List ℕ) (st : State) (k n z : ℕ) where
   unfolding beginUpload
   upload-25 t e h = rw (← e, h)
 
-  pub upload-24 : (t u : Bool) → t ≡ inUse s k n → t ≡ false → u ≡ noRoom s z → u ≡ true → beginUpload (world g s st) k n z ≡ refused 24 (8 ∷ [])
+  pub upload-24 : (t u : Bool) → t ≡ inUse s k n → t ≡ false → u ≡ lacksSpace s z → u ≡ true → beginUpload (world g s st) k n z ≡ refused 24 (8 ∷ [])
   unfolding beginUpload
   upload-24 t u e h f o = rw (← e, h, ← f, o)
 
-  pub upload-done : (t u : Bool) → t ≡ inUse s k n → t ≡ false → u ≡ noRoom s z → u ≡ false
+  pub upload-done : (t u : Bool) → t ≡ inUse s k n → t ≡ false → u ≡ lacksSpace s z → u ≡ false
       → beginUpload (world g s st) k n z ≡ done (world g s (inPhaseOf st (Upload k n z 0 false 0))) (1 ∷ [])
   unfolding beginUpload
   upload-done t u e h f o = rw (← e, h, ← f, o)

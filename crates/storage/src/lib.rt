@@ -9,12 +9,7 @@ use files::append;
 use files::delete;
 use files::store_byte;
 use files::unused;
-use outcome::BROKEN_OFF;
-use outcome::NO_FILE;
-use outcome::NO_SPACE;
-use outcome::NUMBER_IN_USE;
 use outcome::Outcome;
-use outcome::UNKNOWN_TYPE;
 use outcome::done;
 use outcome::in_phase;
 use outcome::one_byte;
@@ -22,6 +17,11 @@ use outcome::put_text;
 use outcome::refuse;
 use outcome::refused;
 use outcome::sending;
+use refusals::NO_SPACE;
+use refusals::NO_SUCH_FILE;
+use refusals::NUMBER_IN_USE;
+use refusals::UNKNOWN_TYPE;
+use refusals::UPLOAD_ABORTED;
 use state::Phase;
 use state::State;
 use state::start_text;
@@ -29,7 +29,7 @@ ghost use mathlib.Core.Path.{_≡_};
 ghost use mathlib.Core.Bool.{_||_};
 ghost use Prim.Native.Nat.{_<_};
 ghost use Rattle.directory.specs.Directory.{entries, hasFile};
-ghost use Rattle.rules.specs.Files.{inUse, noRoom, beginUpload, uploadData, deleteFile, purge};
+ghost use Rattle.rules.specs.Files.{inUse, lacksSpace, beginUpload, uploadData, deleteFile, purge};
 ghost use Rattle.outcome.specs.Contract.{Stores, StoresOn};
 ghost use Rattle.storage.specs.Storage.{tellingOf};
 
@@ -77,8 +77,8 @@ fn is_in_use(store: &[u8], kind: u8, number: u8) -> bool
     true
 }
 
-fn lacks_room(store: &[u8], size: u16) -> bool
-    ensures { λ r. ⌜ r ≡ noRoom (now (store .entry)) size ⌝ }
+fn lacks_space(store: &[u8], size: u16) -> bool
+    ensures { λ r. ⌜ r ≡ lacksSpace (now (store .entry)) size ⌝ }
 {
     if size == 0 {
         return true;
@@ -92,12 +92,12 @@ fn lacks_room(store: &[u8], size: u16) -> bool
 
 // Whether an upload is refused.
 pub fn is_turned_away(store: &[u8], kind: u8, number: u8, size: u16) -> bool
-    ensures { λ r. ⌜ r ≡ (inUse (now (store .entry)) kind number || noRoom (now (store .entry)) size) ⌝ }
+    ensures { λ r. ⌜ r ≡ (inUse (now (store .entry)) kind number || lacksSpace (now (store .entry)) size) ⌝ }
 {
     if is_in_use(store, kind, number) {
         return true;
     }
-    lacks_room(store, size)
+    lacks_space(store, size)
 }
 
 // A refusal that is answered.
@@ -113,7 +113,7 @@ pub fn begin_upload(store: &[u8], state: State, kind: u8, number: u8, size: u16)
     if is_in_use(store, kind, number) {
         return telling(state, NUMBER_IN_USE);
     }
-    if lacks_room(store, size) {
+    if lacks_space(store, size) {
         return telling(state, NO_SPACE);
     }
     let next = in_phase(
@@ -160,7 +160,7 @@ pub fn upload_data(
         return sending(next, one_byte(byte));
     }
     if byte != CONFIRM {
-        return refused(state, BROKEN_OFF);
+        return refused(state, UPLOAD_ABORTED);
     }
     store_byte(store, stored, held);
     if stored + 1 < size {
@@ -190,7 +190,7 @@ pub fn delete_file(store: &mut [u8], state: State, of_type: u8, number: u8) -> O
     }
     let kind = of_type + 1;
     if !is_stored(store, kind, number) {
-        return refused(state, NO_FILE);
+        return refused(state, NO_SUCH_FILE);
     }
     delete(store, kind, number);
     if kind != FONT {

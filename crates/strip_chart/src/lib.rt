@@ -104,15 +104,15 @@ fn shift_rows(rows: &mut [u8], x1: u16, x2: u16, n: u16, right: bool)
 }
 
 // The rectangle of two corners moved one pixel right, or left: only its rows are lent on.
-pub fn shift_strip(fb: &mut [u8], x1: u8, y1: u8, x2: u8, y2: u8, right: bool)
-    ensures { λ _. ⌜ now (fb .exit) ≡ shiftedStrip right x1 y1 x2 y2 (now (fb .entry)) ⌝ }
+pub fn shift_strip(framebuffer: &mut [u8], x1: u8, y1: u8, x2: u8, y2: u8, right: bool)
+    ensures { λ _. ⌜ now (framebuffer .exit) ≡ shiftedStrip right x1 y1 x2 y2 (now (framebuffer .entry)) ⌝ }
 {
     let left = x1 as u16;
     let last = least(x2 as u16, WIDTH - 1);
     if left <= last {
-        let rows = rows_between(fb.len(), y1 as u16, y2 as u16 + 1);
+        let rows = rows_between(framebuffer.len(), y1 as u16, y2 as u16 + 1);
         let from = rows.from;
         let to = rows.to;
-        shift_rows(&mut fb[from..to], left, last, rows.count, right);
+        shift_rows(&mut framebuffer[from..to], left, last, rows.count, right);
     }
 }

@@ -19,7 +19,7 @@ use Rattle.state.specs.declared.State.{State}
 use Rattle.state.specs.declared.Text.{Text}
 use Rattle.rules.specs.World.{world, quietly, refused}
 use Rattle.rules.specs.Fonts.{opened}
-use Rattle.rules.specs.Text.{atPoint, Place as Ruled, place, nowhere, wrapped, roomFor, movedUp, glyphAt, glyphOn, characterIn}
+use Rattle.rules.specs.Text.{atPoint, Place as Ruled, place, nowhere, wrapped, fitted, movedUp, glyphAt, glyphOn, characterIn}
 use Rattle.outcome.specs.Outcome.{putTextOf}
 use Rattle.text.specs.declared.Place.{Place}
 use Rattle.text.specs.declared.Place.the-variants.{At, Nowhere}
@@ -64,21 +64,21 @@ nowhere-is (place a b c) e = cc
 nowhere-is nowhere e = refl
 
 module _ (h v f : ℕ) (p : Ruled) (c : Place) (found : c ≡ placeOf p) where
-  pub room-nowhere : c ≡ Nowhere → Nowhere ≡ placeOf (roomFor h v f p)
-  unfolding roomFor placeOf
+  pub room-nowhere : c ≡ Nowhere → Nowhere ≡ placeOf (fitted h v f p)
+  unfolding fitted placeOf
   room-nowhere e = rw (nowhere-is p (sym found ∙ e))
 
   module _ (x y u : ℕ) (here : c ≡ At x y u) where
-    pub room-right : 240 < x + v → Nowhere ≡ placeOf (roomFor h v f p)
-    unfolding roomFor placeOf
+    pub room-right : 240 < x + v → Nowhere ≡ placeOf (fitted h v f p)
+    unfolding fitted placeOf
     room-right a = rw (at-is p x y u (sym found ∙ here), lt-leb (x + v) 240 a)
 
-    pub room-below : x + v ≤ 240 → h < y + f → Nowhere ≡ placeOf (roomFor h v f p)
-    unfolding roomFor placeOf
+    pub room-below : x + v ≤ 240 → h < y + f → Nowhere ≡ placeOf (fitted h v f p)
+    unfolding fitted placeOf
     room-below a b = rw (at-is p x y u (sym found ∙ here), le-leb (x + v) 240 a, lt-leb (y + f) h b)
 
-    pub room-here : x + v ≤ 240 → y + f ≤ h → At x y u ≡ placeOf (roomFor h v f p)
-    unfolding roomFor placeOf
+    pub room-here : x + v ≤ 240 → y + f ≤ h → At x y u ≡ placeOf (fitted h v f p)
+    unfolding fitted placeOf
     room-here a b = rw (at-is p x y u (sym found ∙ here), le-leb (x + v) 240 a, le-leb (y + f) h b)
 
 -- what a place with room gives
@@ -94,13 +94,13 @@ fits-by h v f a b u x y k true e d =
     record { right = omega (arith, ex, leb-true (a + v) width (q .0)); below = omega (arith, ey, leb-true (b + f) h (q .1)) }
 fits-by h v f a b u x y k false e d = let z : _≡_ {A = ℕ} 0 1 = cc in absurd (omega arith)
 
-room-fits : (h v f : ℕ) (p : Ruled) (x y u : ℕ) → roomFor h v f p ≡ place x y u → Fits h v f x y
-unfolding roomFor
+room-fits : (h v f : ℕ) (p : Ruled) (x y u : ℕ) → fitted h v f p ≡ place x y u → Fits h v f x y
+unfolding fitted
 room-fits h v f (place a b c) x y u e = fits-by h v f a b c x y u (leb (a + v) width && leb (b + f) h) refl e
 room-fits h v f nowhere x y u e = let z : _≡_ {A = ℕ} 0 1 = cc in absurd (omega arith)
 
-pub fits : (h v f : ℕ) (p : Ruled) (c : Place) (x y u : ℕ) → c ≡ placeOf (roomFor h v f p) → c ≡ At x y u → Fits h v f x y
-fits h v f p c x y u e d = room-fits h v f p x y u (at-is (roomFor h v f p) x y u (sym e ∙ d))
+pub fits : (h v f : ℕ) (p : Ruled) (c : Place) (x y u : ℕ) → c ≡ placeOf (fitted h v f p) → c ≡ At x y u → Fits h v f x y
+fits h v f p c x y u e d = room-fits h v f p x y u (at-is (fitted h v f p) x y u (sym e ∙ d))
 
 -- ---- the character
 
@@ -115,13 +115,13 @@ module _ (g s : List ℕ) (st : State) (h b : ℕ) (l : List ℕ) (q : Glyph) (t
   unfolding characterIn glyphOn
   draw-28 e = rw (← glyph, e)
 
-  module _ (o v f : ℕ) (c : Place) (there : q ≡ GlyphAt o v f) (found : c ≡ placeOf (roomFor h v f (wrapped (st .port .text) v f))) where
+  module _ (o v f : ℕ) (c : Place) (there : q ≡ GlyphAt o v f) (found : c ≡ placeOf (fitted h v f (wrapped (st .port .text) v f))) where
     pub draw-29 : c ≡ Nowhere → characterIn (world g s st) b (opened l) ≡ refused 29 []
     unfolding characterIn glyphOn glyphAt
-    draw-29 e = rw (← glyph, there, tall, nowhere-is (roomFor h v f (wrapped (st .port .text) v f)) (sym found ∙ e))
+    draw-29 e = rw (← glyph, there, tall, nowhere-is (fitted h v f (wrapped (st .port .text) v f)) (sym found ∙ e))
 
     pub draw-done : (x y u a d : ℕ) (g' g'' bits : List ℕ) → a ≡ v → d ≡ st .port .text .«char_space» → c ≡ At x y u → g' ≡ movedUp u g → bits ≡ drop o l → g'' ≡ packedBox x y v f bits g'
         → characterIn (world g s st) b (opened l) ≡ quietly (world g'' s (putTextOf st (atPoint (st .port .text) (x + a + d) y)))
     unfolding characterIn glyphOn glyphAt
     draw-done x y u a d g' g'' bits ea ed e up cut paint =
-        rw (← glyph, there, tall, at-is (roomFor h v f (wrapped (st .port .text) v f)) x y u (sym found ∙ e), paint, up, cut, ea, ed)
+        rw (← glyph, there, tall, at-is (fitted h v f (wrapped (st .port .text) v f)) x y u (sym found ∙ e), paint, up, cut, ea, ed)

@@ -13,15 +13,15 @@ use fonts::height;
 use fonts::nominal_width;
 use opened_font::Glyph;
 use opened_font::glyph_of;
-use outcome::MALFORMED;
-use outcome::NO_CHARACTER;
-use outcome::NO_FILE;
-use outcome::NO_ROOM;
-use outcome::OFF_GLASS;
 use outcome::Outcome;
 use outcome::done;
 use outcome::put_text;
 use outcome::refused;
+use refusals::GLYPH_DOES_NOT_FIT;
+use refusals::MALFORMED_FILE;
+use refusals::NO_GLYPH;
+use refusals::NO_SUCH_FILE;
+use refusals::OUT_OF_BOUNDS;
 use scroll::scroll_up;
 use state::State;
 use state::Text;
@@ -29,12 +29,12 @@ ghost use mathlib.Core.Path.{_≡_};
 ghost use mathlib.Core.List.{[], _∷_};
 ghost use Prim.Native.Nat.{_+_, _*_, _-_, _<_, _≤_};
 ghost use Rattle.rules.specs.World.{port, putText, quietly};
-ghost use Rattle.rules.specs.Text.{atPoint, home, withWrap, withScroll, withMetrics, chooseFont, placeIn, setPlace, wrapped, roomFor, movedUp, characterIn, character};
+ghost use Rattle.rules.specs.Text.{atPoint, home, withWrap, withScroll, withMetrics, chooseFont, placeIn, setPlace, wrapped, fitted, movedUp, characterIn, character};
 ghost use Rattle.rules.specs.Fonts.{opened};
 ghost use Rattle.outcome.specs.Contract.{Sets, SetsOn, StoresOn, PaintsOn, ShowsOn};
 ghost use Rattle.text.specs.Places.{placeOf};
 
-// Where a character goes, and by how many rows the screen moves up first.
+// Where a character goes, and by how many rows the framebuffer moves up first.
 enum Place {
     At { x: u16, y: u16, up: u16 },
     Nowhere,
@@ -135,12 +135,12 @@ pub fn choose_font(store: &[u8], state: State, height: u8, number: u8) -> Outcom
         size,
     } = found
     else {
-        return refused(state, NO_FILE);
+        return refused(state, NO_SUCH_FILE);
     };
     let file = part(store, start, size);
     let check = check_font(file, height);
     let Check::Good = check else {
-        return refused(state, MALFORMED);
+        return refused(state, MALFORMED_FILE);
     };
     done(put_text(state, text))
 }
@@ -159,19 +159,19 @@ fn place_in(state: State, height: u8, file: &[u8], column: u8, row: u8) -> Outco
     ensures { λ r. ⌜ SetsOn height (λ w. placeIn w column row (opened (now (file .entry)))) state r ⌝ }
 {
     if column == 0 {
-        return refused(state, OFF_GLASS);
+        return refused(state, OUT_OF_BOUNDS);
     }
     if row == 0 {
-        return refused(state, OFF_GLASS);
+        return refused(state, OUT_OF_BOUNDS);
     }
     let mut text = state.port.text;
     let x = pixel_of(text.left, column, nominal_width(file), text.char_space);
     let y = pixel_of(text.top, row, fonts::height(file), text.line_space);
     if x >= wide(WIDTH) {
-        return refused(state, OFF_GLASS);
+        return refused(state, OUT_OF_BOUNDS);
     }
     if y >= long(height) {
-        return refused(state, OFF_GLASS);
+        return refused(state, OUT_OF_BOUNDS);
     }
     text.x = x as u16;
     text.y = y as u8;
@@ -193,17 +193,17 @@ pub fn set_place(store: &[u8], state: State, height: u8, column: u8, row: u8) ->
         size,
     } = found
     else {
-        return refused(state, NO_FILE);
+        return refused(state, NO_SUCH_FILE);
     };
     let file = part(store, start, size);
     let check = check_font(file, height);
     let Check::Good = check else {
-        return refused(state, MALFORMED);
+        return refused(state, MALFORMED_FILE);
     };
     place_in(state, height, file, column, row)
 }
 
-// A character that passes the last column goes to the next line, onto the screen moved up, or to the top.
+// A character that passes the last column goes to the next line, onto the framebuffer moved up, or to the top.
 fn wrapped(text: Text, width: u8, tall: u8) -> Place
     ensures { λ r. ⌜ r ≡ placeOf (wrapped text width tall) ⌝ }
 {
@@ -243,7 +243,7 @@ fn wrapped(text: Text, width: u8, tall: u8) -> Place
 
 // Nowhere, too, if the box then passes the last column or the last row.
 fn place_for(text: Text, width: u8, tall: u8, height: u8) -> Place
-    ensures { λ r. ⌜ r ≡ placeOf (roomFor height width tall (wrapped text width tall)) ⌝ }
+    ensures { λ r. ⌜ r ≡ placeOf (fitted height width tall (wrapped text width tall)) ⌝ }
 {
     let place = wrapped(text, width, tall);
     let Place::At { x, y, up } = place else {
@@ -258,17 +258,17 @@ fn place_for(text: Text, width: u8, tall: u8, height: u8) -> Place
     Place::At { x: x, y: y, up: up }
 }
 
-fn move_up(screen: &mut [u8], rows: u16)
-    ensures { λ _. ⌜ now (screen .exit) ≡ movedUp rows (now (screen .entry)) ⌝ }
+fn move_up(framebuffer: &mut [u8], rows: u16)
+    ensures { λ _. ⌜ now (framebuffer .exit) ≡ movedUp rows (now (framebuffer .entry)) ⌝ }
 {
     if rows > 0 {
-        scroll_up(screen, rows);
+        scroll_up(framebuffer, rows);
     }
 }
 
 // A character of a font, which is opened for it.
-fn draw_in(screen: &mut [u8], state: State, height: u8, file: &[u8], byte: u8) -> Outcome
-    ensures { λ r. ⌜ PaintsOn height (λ w. characterIn w byte (opened (now (file .entry)))) state (now (screen .entry)) (now (screen .exit)) r ⌝ }
+fn draw_in(framebuffer: &mut [u8], state: State, height: u8, file: &[u8], byte: u8) -> Outcome
+    ensures { λ r. ⌜ PaintsOn height (λ w. characterIn w byte (opened (now (file .entry)))) state (now (framebuffer .entry)) (now (framebuffer .exit)) r ⌝ }
 {
     let glyph = glyph_of(file, byte);
     let Glyph::At {
@@ -277,16 +277,16 @@ fn draw_in(screen: &mut [u8], state: State, height: u8, file: &[u8], byte: u8) -
         height: tall,
     } = glyph
     else {
-        return refused(state, NO_CHARACTER);
+        return refused(state, NO_GLYPH);
     };
     let mut text = state.port.text;
     let place = place_for(text, width, tall, height);
     let Place::At { x, y, up } = place else {
-        return refused(state, NO_ROOM);
+        return refused(state, GLYPH_DOES_NOT_FIT);
     };
-    move_up(screen, up);
+    move_up(framebuffer, up);
     let bits = rest(file, offset);
-    paint_packed(screen, x, y as u8, width, tall, bits);
+    paint_packed(framebuffer, x, y as u8, width, tall, bits);
     text.x = x + word(width) + word(text.char_space);
     text.y = y as u8;
     done(put_text(state, text))
@@ -294,18 +294,18 @@ fn draw_in(screen: &mut [u8], state: State, height: u8, file: &[u8], byte: u8) -
 
 // Any byte but 254 outside a command.
 pub fn draw_character(
-    screen: &mut [u8],
+    framebuffer: &mut [u8],
     store: &[u8],
     state: State,
     height: u8,
     byte: u8,
 ) -> Outcome
-    ensures { λ r. ⌜ ShowsOn height (λ w. character w byte) state (now (screen .entry)) (now (screen .exit)) (now (store .entry)) r ⌝ }
+    ensures { λ r. ⌜ ShowsOn height (λ w. character w byte) state (now (framebuffer .entry)) (now (framebuffer .exit)) (now (store .entry)) r ⌝ }
 {
     let font = state.port.text.font;
     if font == BUILT_IN_FONT {
         let table = builtin_font::file();
-        return draw_in(screen, state, height, &table, byte);
+        return draw_in(framebuffer, state, height, &table, byte);
     }
     let found = find(store, FONT, font);
     let Found::At {
@@ -314,12 +314,12 @@ pub fn draw_character(
         size,
     } = found
     else {
-        return refused(state, NO_FILE);
+        return refused(state, NO_SUCH_FILE);
     };
     let file = part(store, start, size);
     let check = check_font(file, height);
     let Check::Good = check else {
-        return refused(state, MALFORMED);
+        return refused(state, MALFORMED_FILE);
     };
-    draw_in(screen, state, height, file, byte)
+    draw_in(framebuffer, state, height, file, byte)
 }

@@ -25,7 +25,7 @@ same-length : tie.Need-same-length
 same-length c = search needs
 
 returns : tie.Need-returns
-returns c = let a = c .before .before .before .before .before .before .before .before .args in bits-lent (a .fb .now) _ (a .bits .now) (a .x1) (a .x2) (a .y1) (a .y2) (a .w) (c .before .before .before .before .least .result) (c .before .before .before .before .before .rows-between .result) (λ i. c .before .before .before .before .before .before .before .slice-known .given i .fits) (c .before .before .before .before .before .rows-between .ensures) (c .before .before .before .before .least .ensures) (c .before .before .paint-rows .ensures)
+returns c = let a = c .before .before .before .before .before .before .before .before .args in bits-lent (a .framebuffer .now) _ (a .bits .now) (a .x1) (a .x2) (a .y1) (a .y2) (a .w) (c .before .before .before .before .least .result) (c .before .before .before .before .before .rows-between .result) (λ i. c .before .before .before .before .before .before .before .slice-known .given i .fits) (c .before .before .before .before .before .rows-between .ensures) (c .before .before .before .before .least .ensures) (c .before .before .paint-rows .ensures)
 
 pub paint-bits-spec : {M : Type 1} → statement M
 paint-bits-spec =

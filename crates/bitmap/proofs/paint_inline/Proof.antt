@@ -31,13 +31,13 @@ same-length : tie.Need-same-length
 same-length c = search needs
 
 returns : tie.Need-returns
-returns c = let a = c .before .before .before .before .before .before .before .before .before .before .before .before .args in inline-lent (a .x1) (a .y1) (a .x2) (a .y2) (a .k) (a .byte) (a .fb .now) _ _ _ _ (c .before .before .before .before .before .before .before .before .before .inline-place .ensures .column) (c .before .before .before .before .before .before .before .before .before .inline-place .ensures .row) (c .before .before .before .before .before .least .ensures) (search needs) (c .before .before .paint-bits .ensures)
+returns c = let a = c .before .before .before .before .before .before .before .before .before .before .before .before .args in inline-lent (a .x1) (a .y1) (a .x2) (a .y2) (a .k) (a .byte) (a .framebuffer .now) _ _ _ _ (c .before .before .before .before .before .before .before .before .before .inline-place .ensures .column) (c .before .before .before .before .before .before .before .before .before .inline-place .ensures .row) (c .before .before .before .before .before .least .ensures) (search needs) (c .before .before .paint-bits .ensures)
 
 returns-2 : tie.Need-returns-2
-returns-2 c = let a = c .before .before .before .before .before .args in inline-below (a .x1) (a .y1) (a .x2) (a .y2) (a .k) (a .byte) (a .fb .now) (a .fb .now) _ _ 0 (c .before .before .inline-place .ensures .column) (c .before .before .inline-place .ensures .row) (λ i. c .before .before .before .before .slice-known .given i .fits) (search needs)
+returns-2 c = let a = c .before .before .before .before .before .args in inline-below (a .x1) (a .y1) (a .x2) (a .y2) (a .k) (a .byte) (a .framebuffer .now) (a .framebuffer .now) _ _ 0 (c .before .before .inline-place .ensures .column) (c .before .before .inline-place .ensures .row) (λ i. c .before .before .before .before .slice-known .given i .fits) (search needs)
 
 returns-3 : tie.Need-returns-3
-returns-3 c = let a = c .before .before .args in inline-none (a .x1) (a .y1) (a .x2) (a .y2) (a .k) (a .byte) (a .fb .now) (λ i. c .before .slice-known .given i .fits) (search needs)
+returns-3 c = let a = c .before .before .args in inline-none (a .x1) (a .y1) (a .x2) (a .y2) (a .k) (a .byte) (a .framebuffer .now) (λ i. c .before .slice-known .given i .fits) (search needs)
 
 pub paint-inline-spec : {M : Type 1} → statement M
 paint-inline-spec =

@@ -19,7 +19,7 @@ returns : tie.Need-returns
 returns c = search needs
 
 returns-2 : tie.Need-returns-2
-returns-2 c = let a = c .before .before .before .args in packed-off (a .x) (a .y) (a .w) (a .h) (a .bits .now) (a .fb .now) (λ i. c .before .before .slice-known .given i .fits) (search needs)
+returns-2 c = let a = c .before .before .before .args in packed-off (a .x) (a .y) (a .w) (a .h) (a .bits .now) (a .framebuffer .now) (λ i. c .before .before .slice-known .given i .fits) (search needs)
 
 pub paint-packed-spec : {M : Type 1} → statement M
 paint-packed-spec =

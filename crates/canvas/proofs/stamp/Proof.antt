@@ -9,8 +9,8 @@ slice-read-painted c = search needs
 painted-requires : tie.Need-painted-requires
 painted-requires c κs = search needs
 
-slice-write-fb : tie.Need-slice-write-fb
-slice-write-fb c = search needs
+slice-write-framebuffer : tie.Need-slice-write-framebuffer
+slice-write-framebuffer c = search needs
 
 same-length : tie.Need-same-length
 same-length c = search needs
@@ -24,4 +24,4 @@ returns-2 c = stamp-off _ _ _ _ (λ i. c .before .slice-known .given i .fits) (s
 pub stamp-spec : {M : Type 1} → statement M
 stamp-spec =
     tie.close
-    (tie.spec slice-read-painted painted-requires slice-write-fb same-length returns returns-2)
+    (tie.spec slice-read-painted painted-requires slice-write-framebuffer same-length returns returns-2)

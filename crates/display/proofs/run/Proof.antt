@@ -9,12 +9,12 @@ use Rattle.display.proofs.run.Statement.{statement}
 use Rattle.display.proofs.run.Tie as tie
 
 abbrev Inv-loop : tie.InvT-loop
-Inv-loop screen₀ store₀ piece replies₀ s₀ i₀ at₀ screen store replies s i at =
-    (length screen ≡ length screen₀) × (length store ≡ length store₀) × (length replies ≡ length replies₀)
-    × Feeding (world screen₀ store₀ s₀) piece replies₀ (world screen store s) replies at i
+Inv-loop framebuffer₀ store₀ piece replies₀ s₀ i₀ at₀ framebuffer store replies s i at =
+    (length framebuffer ≡ length framebuffer₀) × (length store ≡ length store₀) × (length replies ≡ length replies₀)
+    × Feeding (world framebuffer₀ store₀ s₀) piece replies₀ (world framebuffer store s) replies at i
 
 abbrev μ-loop : tie.MeasureT-loop
-μ-loop screen₀ store₀ piece replies₀ s₀ i₀ at₀ screen store replies s i at = length piece - i
+μ-loop framebuffer₀ store₀ piece replies₀ s₀ i₀ at₀ framebuffer store replies s i at = length piece - i
 
 loop-holds : tie.Need-loop-holds Inv-loop μ-loop
 loop-holds c = (refl, refl, refl, feeding-start _ _ _ (c .before .before .before .before .pre))

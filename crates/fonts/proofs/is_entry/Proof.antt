@@ -9,11 +9,11 @@ use Rattle.fonts.proofs.is_entry.Tie as tie
 width-at-requires : tie.Need-width-at-requires
 width-at-requires c κs = search needs
 
-is-within-requires : tie.Need-is-within-requires
-is-within-requires c κs = search needs
+is-between-requires : tie.Need-is-between-requires
+is-between-requires c κs = search needs
 
 returns : tie.Need-returns
-returns c = entry-narrow _ _ _ _ (c .before .before .width-at .ensures) (c .before .is-within .ensures) (not-true _ (c .if1 .taken))
+returns c = entry-narrow _ _ _ _ (c .before .before .width-at .ensures) (c .before .is-between .ensures) (not-true _ (c .if1 .taken))
 
 height-requires : tie.Need-height-requires
 height-requires c κs = search needs
@@ -28,14 +28,14 @@ add-end : tie.Need-add-end
 add-end c = search needs
 
 returns-2 : tie.Need-returns-2
-returns-2 c = entry-ends _ _ _ _ _ _ _ (c .before .before .before .before .before .width-at .ensures) (c .before .before .before .before .is-within .ensures) (not-false _ (c .before .before .before .if1 .left)) (c .before .before .height .ensures) (c .before .packed-bytes .ensures .0) (c .offset-at .ensures .0)
+returns-2 c = entry-ends _ _ _ _ _ _ _ (c .before .before .before .before .before .width-at .ensures) (c .before .before .before .before .is-between .ensures) (not-false _ (c .before .before .before .if1 .left)) (c .before .before .height .ensures) (c .before .packed-bytes .ensures .0) (c .offset-at .ensures .0)
 
 pub is-entry-spec : {M : Type 1} → statement M
 is-entry-spec =
     tie.close
     (tie.spec
     width-at-requires
-    is-within-requires
+    is-between-requires
     returns
     height-requires
     packed-bytes-requires

@@ -4,10 +4,10 @@ use Rattle.gallery.proofs.show.Statement.{statement}
 use Rattle.gallery.proofs.show.Tie as tie
 
 abbrev Inv-loop : tie.InvT-loop
-Inv-loop fb x1 x2 y1 y2 y₀ y = y ≤ y
+Inv-loop framebuffer x1 x2 y1 y2 y₀ y = y ≤ y
 
 abbrev μ-loop : tie.MeasureT-loop
-μ-loop fb x1 x2 y1 y2 y₀ y = y2 - y
+μ-loop framebuffer x1 x2 y1 y2 y₀ y = y2 - y
 
 loop-holds : tie.Need-loop-holds Inv-loop μ-loop
 loop-holds c = search needs

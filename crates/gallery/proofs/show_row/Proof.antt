@@ -4,10 +4,10 @@ use Rattle.gallery.proofs.show_row.Statement.{statement}
 use Rattle.gallery.proofs.show_row.Tie as tie
 
 abbrev Inv-loop : tie.InvT-loop
-Inv-loop fb x1 x2 y x₀ t6 x = x ≤ x
+Inv-loop framebuffer x1 x2 y x₀ t6 x = x ≤ x
 
 abbrev μ-loop : tie.MeasureT-loop
-μ-loop fb x1 x2 y x₀ t6 x = x2 - x
+μ-loop framebuffer x1 x2 y x₀ t6 x = x2 - x
 
 loop-holds : tie.Need-loop-holds Inv-loop μ-loop
 loop-holds c = search needs

@@ -19,14 +19,14 @@ refused-requires-2 c κs = search needs
 returns-2 : tie.Need-returns-2
 returns-2 c = on-refused 20 (c .refused2 .ensures) (λ g s t. bar-20 _ _ _ _ _ _ _ _ _ _ _ t (c .before .before .before .wide .ensures .0) (search needs) (search needs))
 
-is-on-screen-requires : tie.Need-is-on-screen-requires
-is-on-screen-requires c κs = search needs
+is-in-bounds-requires : tie.Need-is-in-bounds-requires
+is-in-bounds-requires c κs = search needs
 
 refused-requires-3 : tie.Need-refused-requires-3
 refused-requires-3 c κs = search needs
 
 returns-3 : tie.Need-returns-3
-returns-3 c = on-refused 17 (c .refused3 .ensures) (λ g s t. bar-17 _ _ _ _ _ _ _ _ _ _ _ t (c .before .before .before .before .before .wide .ensures .0) _ (search needs) (search needs) (c .before .before .is-on-screen .ensures) (search needs))
+returns-3 c = on-refused 17 (c .refused3 .ensures) (λ g s t. bar-17 _ _ _ _ _ _ _ _ _ _ _ t (c .before .before .before .before .before .wide .ensures .0) _ (search needs) (search needs) (c .before .before .is-in-bounds .ensures) (search needs))
 
 is-apart-requires : tie.Need-is-apart-requires
 is-apart-requires c κs = search needs
@@ -35,7 +35,7 @@ refused-requires-4 : tie.Need-refused-requires-4
 refused-requires-4 c κs = search needs
 
 returns-4 : tie.Need-returns-4
-returns-4 c = on-refused 18 (c .refused4 .ensures) (λ g s t. bar-18 _ _ _ _ _ _ _ _ _ _ _ t (c .before .before .before .before .before .before .before .wide .ensures .0) _ _ (search needs) (search needs) (c .before .before .before .before .is-on-screen .ensures) (search needs) (c .before .before .is-apart .ensures) (search needs))
+returns-4 c = on-refused 18 (c .refused4 .ensures) (λ g s t. bar-18 _ _ _ _ _ _ _ _ _ _ _ t (c .before .before .before .before .before .before .before .wide .ensures .0) _ _ (search needs) (search needs) (c .before .before .before .before .is-in-bounds .ensures) (search needs) (c .before .before .is-apart .ensures) (search needs))
 
 with-bar-requires : tie.Need-with-bar-requires
 with-bar-requires c κs = search needs
@@ -44,7 +44,7 @@ done-requires : tie.Need-done-requires
 done-requires c κs = search needs
 
 returns-5 : tie.Need-returns-5
-returns-5 c = on-done _ (done-with (c .before .with-bar .ensures) (c .done .ensures)) (λ g s t. bar-done _ _ _ _ _ _ _ _ _ _ _ t (c .before .before .before .before .before .before .before .before .wide .ensures .0) _ _ (search needs) (search needs) (c .before .before .before .before .before .is-on-screen .ensures) (search needs) (c .before .before .before .is-apart .ensures) (search needs))
+returns-5 c = on-done _ (done-with (c .before .with-bar .ensures) (c .done .ensures)) (λ g s t. bar-done _ _ _ _ _ _ _ _ _ _ _ t (c .before .before .before .before .before .before .before .before .wide .ensures .0) _ _ (search needs) (search needs) (c .before .before .before .before .before .is-in-bounds .ensures) (search needs) (c .before .before .before .is-apart .ensures) (search needs))
 
 pub set-up-bar-spec : {M : Type 1} → statement M
 set-up-bar-spec =
@@ -55,7 +55,7 @@ set-up-bar-spec =
     returns
     refused-requires-2
     returns-2
-    is-on-screen-requires
+    is-in-bounds-requires
     refused-requires-3
     returns-3
     is-apart-requires

@@ -13,14 +13,14 @@ refused-requires c κs = search needs
 returns : tie.Need-returns
 returns c = on-refused 19 (c .refused .ensures) (λ g s t. strip-19 _ _ _ _ _ _ 0 _ _ _ _ t (c .before .before .wide .ensures .0) (search needs))
 
-is-on-screen-requires : tie.Need-is-on-screen-requires
-is-on-screen-requires c κs = search needs
+is-in-bounds-requires : tie.Need-is-in-bounds-requires
+is-in-bounds-requires c κs = search needs
 
 refused-requires-2 : tie.Need-refused-requires-2
 refused-requires-2 c κs = search needs
 
 returns-2 : tie.Need-returns-2
-returns-2 c = on-refused 17 (c .refused2 .ensures) (λ g s t. strip-17 _ _ _ _ _ _ 0 _ _ _ _ t (c .before .before .before .before .wide .ensures .0) _ (search needs) (c .before .before .is-on-screen .ensures) (search needs))
+returns-2 c = on-refused 17 (c .refused2 .ensures) (λ g s t. strip-17 _ _ _ _ _ _ 0 _ _ _ _ t (c .before .before .before .before .wide .ensures .0) _ (search needs) (c .before .before .is-in-bounds .ensures) (search needs))
 
 is-apart-requires : tie.Need-is-apart-requires
 is-apart-requires c κs = search needs
@@ -29,7 +29,7 @@ refused-requires-3 : tie.Need-refused-requires-3
 refused-requires-3 c κs = search needs
 
 returns-3 : tie.Need-returns-3
-returns-3 c = on-refused 18 (c .refused3 .ensures) (λ g s t. strip-18 _ _ _ _ _ _ 0 _ _ _ _ t (c .before .before .before .before .before .before .wide .ensures .0) _ _ (search needs) (c .before .before .before .before .is-on-screen .ensures) (search needs) (c .before .before .is-apart .ensures) (search needs))
+returns-3 c = on-refused 18 (c .refused3 .ensures) (λ g s t. strip-18 _ _ _ _ _ _ 0 _ _ _ _ t (c .before .before .before .before .before .before .wide .ensures .0) _ _ (search needs) (c .before .before .before .before .is-in-bounds .ensures) (search needs) (c .before .before .is-apart .ensures) (search needs))
 
 with-strip-requires : tie.Need-with-strip-requires
 with-strip-requires c κs = search needs
@@ -38,7 +38,7 @@ done-requires : tie.Need-done-requires
 done-requires c κs = search needs
 
 returns-4 : tie.Need-returns-4
-returns-4 c = on-done _ (done-with (c .before .with-strip .ensures) (c .done .ensures)) (λ g s t. strip-done _ _ _ _ _ _ 0 _ _ _ _ t (c .before .before .before .before .before .before .before .wide .ensures .0) _ _ (search needs) (c .before .before .before .before .before .is-on-screen .ensures) (search needs) (c .before .before .before .is-apart .ensures) (search needs))
+returns-4 c = on-done _ (done-with (c .before .with-strip .ensures) (c .done .ensures)) (λ g s t. strip-done _ _ _ _ _ _ 0 _ _ _ _ t (c .before .before .before .before .before .before .before .wide .ensures .0) _ _ (search needs) (c .before .before .before .before .before .is-in-bounds .ensures) (search needs) (c .before .before .before .is-apart .ensures) (search needs))
 
 pub set-up-strip-spec : {M : Type 1} → statement M
 set-up-strip-spec =
@@ -47,7 +47,7 @@ set-up-strip-spec =
     wide-requires
     refused-requires
     returns
-    is-on-screen-requires
+    is-in-bounds-requires
     refused-requires-2
     returns-2
     is-apart-requires

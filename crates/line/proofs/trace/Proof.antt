@@ -5,10 +5,10 @@ use Rattle.line.proofs.trace.Statement.{statement}
 use Rattle.line.proofs.trace.Tie as tie
 
 abbrev Inv-loop : tie.InvT-loop
-Inv-loop fb₀ a1 a2 b1 b2 steep c slope run walker₀ i₀ fb walker i = Tracing steep (c .black) a1 a2 b1 b2 fb₀ fb walker i
+Inv-loop framebuffer₀ a1 a2 b1 b2 steep c slope run walker₀ i₀ framebuffer walker i = Tracing steep (c .black) a1 a2 b1 b2 framebuffer₀ framebuffer walker i
 
 abbrev μ-loop : tie.MeasureT-loop
-μ-loop fb₀ a1 a2 b1 b2 steep c slope run walker₀ i₀ fb walker i = run - i
+μ-loop framebuffer₀ a1 a2 b1 b2 steep c slope run walker₀ i₀ framebuffer walker i = run - i
 
 slope-of-requires : tie.Need-slope-of-requires Inv-loop μ-loop
 slope-of-requires c κs = search needs

@@ -35,11 +35,11 @@ slice-aggregate-obey-all-4 c = search needs
 obey-all-requires : tie.Need-obey-all-requires
 obey-all-requires c κs = search needs
 
-slice-aggregate-show-glass : tie.Need-slice-aggregate-show-glass
-slice-aggregate-show-glass c = search needs
+slice-aggregate-show-framebuffer : tie.Need-slice-aggregate-show-framebuffer
+slice-aggregate-show-framebuffer c = search needs
 
-show-glass-requires : tie.Need-show-glass-requires
-show-glass-requires c κs = search needs
+show-framebuffer-requires : tie.Need-show-framebuffer-requires
+show-framebuffer-requires c κs = search needs
 
 slice-aggregate-show-refusals : tie.Need-slice-aggregate-show-refusals
 slice-aggregate-show-refusals c = search needs
@@ -73,8 +73,8 @@ main-spec =
     slice-aggregate-obey-all-3
     slice-aggregate-obey-all-4
     obey-all-requires
-    slice-aggregate-show-glass
-    show-glass-requires
+    slice-aggregate-show-framebuffer
+    show-framebuffer-requires
     slice-aggregate-show-refusals
     show-refusals-requires
     array-share-prefix-shown

@@ -4,10 +4,10 @@ use Rattle.listing.proofs.next_black.Statement.{statement}
 use Rattle.listing.proofs.next_black.Tie as tie
 
 abbrev Inv-loop : tie.InvT-loop
-Inv-loop glass x y next₀ next = x ≤ next
+Inv-loop framebuffer x y next₀ next = x ≤ next
 
 abbrev μ-loop : tie.MeasureT-loop
-μ-loop glass x y next₀ next = 240 - next
+μ-loop framebuffer x y next₀ next = 240 - next
 
 loop-holds : tie.Need-loop-holds Inv-loop μ-loop
 loop-holds c = search needs

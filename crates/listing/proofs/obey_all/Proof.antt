@@ -6,10 +6,10 @@ use Rattle.listing.proofs.obey_all.Statement.{statement}
 use Rattle.listing.proofs.obey_all.Tie as tie
 
 abbrev Inv-loop : tie.InvT-loop
-Inv-loop glass₀ store₀ state₀ shown₀ turns₀ count₀ glass store state shown turns count = (length glass ≡ length glass₀) × (length store ≡ length store₀) × (length state ≡ length state₀) × (length shown ≡ length shown₀) × (count ≤ length shown₀)
+Inv-loop framebuffer₀ store₀ state₀ shown₀ turns₀ count₀ framebuffer store state shown turns count = (length framebuffer ≡ length framebuffer₀) × (length store ≡ length store₀) × (length state ≡ length state₀) × (length shown ≡ length shown₀) × (count ≤ length shown₀)
 
 abbrev μ-loop : tie.MeasureT-loop
-μ-loop glass₀ store₀ state₀ shown₀ turns₀ count₀ glass store state shown turns count = turns
+μ-loop framebuffer₀ store₀ state₀ shown₀ turns₀ count₀ framebuffer store state shown turns count = turns
 
 loop-holds : tie.Need-loop-holds Inv-loop μ-loop
 loop-holds c = search needs

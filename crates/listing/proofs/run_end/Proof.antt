@@ -4,10 +4,10 @@ use Rattle.listing.proofs.run_end.Statement.{statement}
 use Rattle.listing.proofs.run_end.Tie as tie
 
 abbrev Inv-loop : tie.InvT-loop
-Inv-loop glass x y end₀ end = x ≤ end
+Inv-loop framebuffer x y end₀ end = x ≤ end
 
 abbrev μ-loop : tie.MeasureT-loop
-μ-loop glass x y end₀ end = 240 - end
+μ-loop framebuffer x y end₀ end = 240 - end
 
 loop-holds : tie.Need-loop-holds Inv-loop μ-loop
 loop-holds c = search needs

@@ -4,10 +4,10 @@ use Rattle.listing.proofs.show_row.Statement.{statement}
 use Rattle.listing.proofs.show_row.Tie as tie
 
 abbrev Inv-loop : tie.InvT-loop
-Inv-loop glass y x₀ t6 x = Unit {0}
+Inv-loop framebuffer y x₀ t6 x = Unit {0}
 
 abbrev μ-loop : tie.MeasureT-loop
-μ-loop glass y x₀ t6 x = 240 - x
+μ-loop framebuffer y x₀ t6 x = 240 - x
 
 next-black-requires : tie.Need-next-black-requires Inv-loop μ-loop
 next-black-requires c κs = search needs

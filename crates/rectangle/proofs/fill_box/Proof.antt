@@ -26,7 +26,7 @@ same-length : tie.Need-same-length
 same-length c = search needs
 
 returns : tie.Need-returns
-returns c = let a = c .before .before .before .before .before .before .before .args in lent-box (a .fb .now) _ (a .x1) (a .x2) (a .y1) (a .y2) (c .before .before .before .before .least .result) (c .before .before .before .before .before .rows-between .result) (plain (a .c .black)) (λ i. c .before .before .before .before .before .before .slice-known .given i .fits) (c .before .before .before .before .before .rows-between .ensures) (c .before .before .before .before .least .ensures) (c .before .before .fill-rows .ensures)
+returns c = let a = c .before .before .before .before .before .before .before .args in lent-box (a .framebuffer .now) _ (a .x1) (a .x2) (a .y1) (a .y2) (c .before .before .before .before .least .result) (c .before .before .before .before .before .rows-between .result) (plain (a .c .black)) (λ i. c .before .before .before .before .before .before .slice-known .given i .fits) (c .before .before .before .before .before .rows-between .ensures) (c .before .before .before .before .least .ensures) (c .before .before .fill-rows .ensures)
 
 pub fill-box-spec : {M : Type 1} → statement M
 fill-box-spec =

@@ -6,16 +6,16 @@ use Rattle.scroll.proofs.clear.Statement.{statement}
 use Rattle.scroll.proofs.clear.Tie as tie
 
 abbrev Inv-loop : tie.InvT-loop
-Inv-loop fb₀ i₀ fb i = Cleared i fb₀ fb
+Inv-loop framebuffer₀ i₀ framebuffer i = Cleared i framebuffer₀ framebuffer
 
 abbrev μ-loop : tie.MeasureT-loop
-μ-loop fb₀ i₀ fb i = length fb₀ - i
+μ-loop framebuffer₀ i₀ framebuffer i = length framebuffer₀ - i
 
 loop-holds : tie.Need-loop-holds Inv-loop μ-loop
 loop-holds c = cleared-none _
 
-slice-write-fb : tie.Need-slice-write-fb Inv-loop μ-loop
-slice-write-fb c = search needs
+slice-write-framebuffer : tie.Need-slice-write-framebuffer Inv-loop μ-loop
+slice-write-framebuffer c = search needs
 
 add-i : tie.Need-add-i Inv-loop μ-loop
 add-i c = search needs
@@ -39,7 +39,7 @@ clear-spec =
     Inv-loop
     μ-loop
     loop-holds
-    slice-write-fb
+    slice-write-framebuffer
     add-i
     loop-less
     loop-again

@@ -5,22 +5,22 @@ use Rattle.scroll.proofs.move_up.Statement.{statement}
 use Rattle.scroll.proofs.move_up.Tie as tie
 
 abbrev Inv-loop : tie.InvT-loop
-Inv-loop fb₀ by n i₀ fb i = Moving by n i fb₀ fb
+Inv-loop framebuffer₀ by n i₀ framebuffer i = Moving by n i framebuffer₀ framebuffer
 
 abbrev μ-loop : tie.MeasureT-loop
-μ-loop fb₀ by n i₀ fb i = n - i
+μ-loop framebuffer₀ by n i₀ framebuffer i = n - i
 
 loop-holds : tie.Need-loop-holds Inv-loop μ-loop
 loop-holds c = moving-none _
 
-add-fb : tie.Need-add-fb Inv-loop μ-loop
-add-fb c = search needs
+add-framebuffer : tie.Need-add-framebuffer Inv-loop μ-loop
+add-framebuffer c = search needs
 
-slice-read-fb : tie.Need-slice-read-fb Inv-loop μ-loop
-slice-read-fb c = search needs
+slice-read-framebuffer : tie.Need-slice-read-framebuffer Inv-loop μ-loop
+slice-read-framebuffer c = search needs
 
-slice-write-fb : tie.Need-slice-write-fb Inv-loop μ-loop
-slice-write-fb c = search needs
+slice-write-framebuffer : tie.Need-slice-write-framebuffer Inv-loop μ-loop
+slice-write-framebuffer c = search needs
 
 add-i : tie.Need-add-i Inv-loop μ-loop
 add-i c = search needs
@@ -44,9 +44,9 @@ move-up-spec =
     Inv-loop
     μ-loop
     loop-holds
-    add-fb
-    slice-read-fb
-    slice-write-fb
+    add-framebuffer
+    slice-read-framebuffer
+    slice-write-framebuffer
     add-i
     loop-less
     loop-again

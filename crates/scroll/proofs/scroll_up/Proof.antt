@@ -32,7 +32,7 @@ same-length : tie.Need-same-length
 same-length c = search needs
 
 returns : tie.Need-returns
-returns c = scrolled-on (c .before .before .before .before .before .before .before .before .before .before .args .fb .now) _ _ (c .before .before .before .before .before .before .before .before .before .before .args .rows) _ _ _ refl refl refl (search needs) (λ i. c .before .before .before .before .before .before .before .before .before .slice-known .given i .fits) (c .before .before .before .before .before .before .move-up .ensures) (c .before .before .clear .ensures)
+returns c = scrolled-on (c .before .before .before .before .before .before .before .before .before .before .args .framebuffer .now) _ _ (c .before .before .before .before .before .before .before .before .before .before .args .rows) _ _ _ refl refl refl (search needs) (λ i. c .before .before .before .before .before .before .before .before .before .slice-known .given i .fits) (c .before .before .before .before .before .before .move-up .ensures) (c .before .before .clear .ensures)
 
 same-length-2 : tie.Need-same-length-2
 same-length-2 c = search needs

@@ -11,8 +11,8 @@ slice-read-blended c = search needs
 blended-requires : tie.Need-blended-requires
 blended-requires c κs = search needs
 
-slice-write-fb : tie.Need-slice-write-fb
-slice-write-fb c = search needs
+slice-write-framebuffer : tie.Need-slice-write-framebuffer
+slice-write-framebuffer c = search needs
 
 same-length : tie.Need-same-length
 same-length c = search needs
@@ -24,4 +24,4 @@ returns-2 : tie.Need-returns-2
 returns-2 c = blend-off _ _ _ _ (λ i. c .before .slice-known .given i .fits) (search needs)
 
 pub blend-spec : {M : Type 1} → statement M
-blend-spec = tie.close (tie.spec slice-read-blended blended-requires slice-write-fb same-length returns returns-2)
+blend-spec = tie.close (tie.spec slice-read-blended blended-requires slice-write-framebuffer same-length returns returns-2)

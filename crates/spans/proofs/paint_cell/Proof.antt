@@ -19,15 +19,15 @@ same-length c = search needs
 returns : tie.Need-returns
 returns c =
     let a = c .before .before .before .before .before .before .before .before .args in
-    part-painted (a .x) (a .x2) (c .before .before .before .before .before .before .cell-end .result) (a .y) (a .bits) (a .fb .now) _ (c .before .before .before .before .before .before .cell-end .ensures) (c .before .before .paint-part .ensures)
+    part-painted (a .x) (a .x2) (c .before .before .before .before .before .before .cell-end .result) (a .y) (a .bits) (a .framebuffer .now) _ (c .before .before .before .before .before .before .cell-end .ensures) (c .before .before .paint-part .ensures)
 
 returns-2 : tie.Need-returns-2
-returns-2 c = let a = c .before .before .before .before .args in cell-off (a .fb .now) (a .x) _ (a .y) (a .bits) (λ i. c .before .before .before .slice-known .given i .fits) (search needs)
+returns-2 c = let a = c .before .before .before .before .args in cell-off (a .framebuffer .now) (a .x) _ (a .y) (a .bits) (λ i. c .before .before .before .slice-known .given i .fits) (search needs)
 
 returns-3 : tie.Need-returns-3
 returns-3 c =
     let a = c .before .before .before .args in
-    part-painted (a .x) (a .x2) (c .before .cell-end .result) (a .y) (a .bits) (a .fb .now) _ (c .before .cell-end .ensures) (cell-none (a .fb .now) (a .x) (c .before .cell-end .result) (a .y) (a .bits) (λ i. c .before .before .slice-known .given i .fits) (search needs))
+    part-painted (a .x) (a .x2) (c .before .cell-end .result) (a .y) (a .bits) (a .framebuffer .now) _ (c .before .cell-end .ensures) (cell-none (a .framebuffer .now) (a .x) (c .before .cell-end .result) (a .y) (a .bits) (λ i. c .before .before .slice-known .given i .fits) (search needs))
 
 pub paint-cell-spec : {M : Type 1} → statement M
 paint-cell-spec =

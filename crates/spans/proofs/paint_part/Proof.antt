@@ -42,7 +42,7 @@ same-length c = search needs
 returns : tie.Need-returns
 returns c =
     let a = c .before .before .before .before .before .before .args in
-    cell-painted (a .fb .now) _ (a .x) (a .end) (a .y) (a .bits) (c .before .before .before .cell .result) _ _ _ (search needs) (search needs) (search needs) refl refl (c .before .before .before .cell .ensures) refl (c .before .before .blend .ensures)
+    cell-painted (a .framebuffer .now) _ (a .x) (a .end) (a .y) (a .bits) (c .before .before .before .cell .result) _ _ _ (search needs) (search needs) (search needs) refl refl (c .before .before .before .cell .ensures) refl (c .before .before .blend .ensures)
 
 pub paint-part-spec : {M : Type 1} → statement M
 paint-part-spec =

@@ -13,14 +13,14 @@ telling-requires c κs = search needs
 returns : tie.Need-returns
 returns c = stores-telling 25 8 (c .telling .ensures) (λ g. upload-25 _ _ _ _ _ _ _ (c .before .before .is-in-use .ensures) (search needs))
 
-lacks-room-requires : tie.Need-lacks-room-requires
-lacks-room-requires c κs = search needs
+lacks-space-requires : tie.Need-lacks-space-requires
+lacks-space-requires c κs = search needs
 
 telling-requires-2 : tie.Need-telling-requires-2
 telling-requires-2 c κs = search needs
 
 returns-2 : tie.Need-returns-2
-returns-2 c = stores-telling 24 8 (c .telling2 .ensures) (λ g. upload-24 _ _ _ _ _ _ _ _ (c .before .before .before .before .is-in-use .ensures) (search needs) (c .before .before .lacks-room .ensures) (search needs))
+returns-2 c = stores-telling 24 8 (c .telling2 .ensures) (λ g. upload-24 _ _ _ _ _ _ _ _ (c .before .before .before .before .is-in-use .ensures) (search needs) (c .before .before .lacks-space .ensures) (search needs))
 
 in-phase-requires : tie.Need-in-phase-requires
 in-phase-requires c κs = search needs
@@ -32,7 +32,7 @@ sending-requires : tie.Need-sending-requires
 sending-requires c κs = search needs
 
 returns-3 : tie.Need-returns-3
-returns-3 c = stores-one _ _ (sending-with (c .before .before .in-phase .ensures) (c .before .one-byte .ensures) (c .sending .ensures)) (λ g. upload-done _ _ _ _ _ _ _ _ (c .before .before .before .before .before .before .is-in-use .ensures) (search needs) (c .before .before .before .before .lacks-room .ensures) (search needs))
+returns-3 c = stores-one _ _ (sending-with (c .before .before .in-phase .ensures) (c .before .one-byte .ensures) (c .sending .ensures)) (λ g. upload-done _ _ _ _ _ _ _ _ (c .before .before .before .before .before .before .is-in-use .ensures) (search needs) (c .before .before .before .before .lacks-space .ensures) (search needs))
 
 pub begin-upload-spec : {M : Type 1} → statement M
 begin-upload-spec =
@@ -41,7 +41,7 @@ begin-upload-spec =
     is-in-use-requires
     telling-requires
     returns
-    lacks-room-requires
+    lacks-space-requires
     telling-requires-2
     returns-2
     in-phase-requires

@@ -9,11 +9,11 @@ is-in-use-requires c κs = search needs
 returns : tie.Need-returns
 returns c = away-used (c .before .before .before .args .store .now) (c .before .before .before .args .kind) (c .before .before .before .args .number) (c .before .before .before .args .size) _ (c .before .is-in-use .ensures) (search needs)
 
-lacks-room-requires : tie.Need-lacks-room-requires
-lacks-room-requires c κs = search needs
+lacks-space-requires : tie.Need-lacks-space-requires
+lacks-space-requires c κs = search needs
 
 returns-2 : tie.Need-returns-2
-returns-2 c = away-room (c .before .before .before .before .args .store .now) (c .before .before .before .before .args .kind) (c .before .before .before .before .args .number) (c .before .before .before .before .args .size) _ _ (c .before .before .is-in-use .ensures) (search needs) (c .lacks-room .ensures)
+returns-2 c = away-room (c .before .before .before .before .args .store .now) (c .before .before .before .before .args .kind) (c .before .before .before .before .args .number) (c .before .before .before .before .args .size) _ _ (c .before .before .is-in-use .ensures) (search needs) (c .lacks-space .ensures)
 
 pub is-turned-away-spec : {M : Type 1} → statement M
-is-turned-away-spec = tie.close (tie.spec is-in-use-requires returns lacks-room-requires returns-2)
+is-turned-away-spec = tie.close (tie.spec is-in-use-requires returns lacks-space-requires returns-2)

@@ -32,10 +32,10 @@ same-length : tie.Need-same-length
 same-length c = search needs
 
 returns : tie.Need-returns
-returns c = let a = c .before .before .before .before .before .before .before .before .args in strip-lent (a .right) (a .x1) (a .y1) (a .x2) (a .y2) (c .before .before .before .before .before .before .least .result) (a .fb .now) _ (c .before .before .before .before .rows-between .result) (λ i. c .before .before .before .before .before .before .before .slice-known .given i .fits) (c .before .before .before .before .before .before .least .ensures) (c .before .before .before .before .rows-between .ensures) (c .before .before .shift-rows .ensures)
+returns c = let a = c .before .before .before .before .before .before .before .before .args in strip-lent (a .right) (a .x1) (a .y1) (a .x2) (a .y2) (c .before .before .before .before .before .before .least .result) (a .framebuffer .now) _ (c .before .before .before .before .rows-between .result) (λ i. c .before .before .before .before .before .before .before .slice-known .given i .fits) (c .before .before .before .before .before .before .least .ensures) (c .before .before .before .before .rows-between .ensures) (c .before .before .shift-rows .ensures)
 
 returns-2 : tie.Need-returns-2
-returns-2 c = let a = c .before .before .before .args in strip-off (a .right) (a .x1) (a .y1) (a .x2) (a .y2) (a .fb .now) (λ i. c .before .before .slice-known .given i .fits) (omega (arith, c .before .least .ensures))
+returns-2 c = let a = c .before .before .before .args in strip-off (a .right) (a .x1) (a .y1) (a .x2) (a .y2) (a .framebuffer .now) (λ i. c .before .before .slice-known .given i .fits) (omega (arith, c .before .least .ensures))
 
 pub shift-strip-spec : {M : Type 1} → statement M
 shift-strip-spec =

@@ -5,8 +5,8 @@ use Rattle.state.specs.Soundness.{soundSetUp}
 use Rattle.state.proofs.sound.is_set_up_sound.Statement.{statement}
 use Rattle.state.proofs.sound.is_set_up_sound.Tie as tie
 
-is-on-glass-requires : tie.Need-is-on-glass-requires
-is-on-glass-requires c κs = search needs
+are-corners-sound-requires : tie.Need-are-corners-sound-requires
+are-corners-sound-requires c κs = search needs
 
 word-requires : tie.Need-word-requires
 word-requires c κs = search needs
@@ -28,7 +28,7 @@ pub is-set-up-sound-spec : {M : Type 1} → statement M
 is-set-up-sound-spec =
     tie.close
     (tie.spec
-    is-on-glass-requires
+    are-corners-sound-requires
     word-requires
     length-of-requires
     both-requires

@@ -5,11 +5,11 @@ use Rattle.state.proofs.Parts.{strip-on, strip-off}
 use Rattle.state.proofs.sound.is_strip_sound.Statement.{statement}
 use Rattle.state.proofs.sound.is_strip_sound.Tie as tie
 
-is-on-glass-requires : tie.Need-is-on-glass-requires
-is-on-glass-requires c κs = search needs
+are-corners-sound-requires : tie.Need-are-corners-sound-requires
+are-corners-sound-requires c κs = search needs
 
 returns : tie.Need-returns
-returns c = strip-on _ _ _ (search needs) (c .is-on-glass .ensures)
+returns c = strip-on _ _ _ (search needs) (c .are-corners-sound .ensures)
 
 is-zero-from-requires : tie.Need-is-zero-from-requires
 is-zero-from-requires c κs = search needs
@@ -19,4 +19,4 @@ returns-2 c = strip-off _ _ _ (search needs) (c .is-zero-from .ensures)
 
 pub is-strip-sound-spec : {M : Type 1} → statement M
 is-strip-sound-spec =
-    tie.close (tie.spec is-on-glass-requires returns is-zero-from-requires returns-2)
+    tie.close (tie.spec are-corners-sound-requires returns is-zero-from-requires returns-2)

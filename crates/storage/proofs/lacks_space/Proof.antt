@@ -1,7 +1,7 @@
 use Rattle.storage.proofs.Laws.{no-size, no-place, no-bytes}
 use borrow.Author.Needs.{needs}
-use Rattle.storage.proofs.lacks_room.Statement.{statement}
-use Rattle.storage.proofs.lacks_room.Tie as tie
+use Rattle.storage.proofs.lacks_space.Statement.{statement}
+use Rattle.storage.proofs.lacks_space.Tie as tie
 
 returns : tie.Need-returns
 returns c = no-size (c .before .before .args .store .now) (c .before .before .args .size) (search needs)
@@ -18,5 +18,5 @@ unused-requires c κs = search needs
 returns-3 : tie.Need-returns-3
 returns-3 c = no-bytes (c .before .before .before .before .before .before .args .store .now) (c .before .before .before .before .before .before .args .size) _ _ (search needs) (c .before .before .before .tally .ensures .0) (search needs) (c .unused .ensures)
 
-pub lacks-room-spec : {M : Type 1} → statement M
-lacks-room-spec = tie.close (tie.spec returns tally-requires returns-2 unused-requires returns-3)
+pub lacks-space-spec : {M : Type 1} → statement M
+lacks-space-spec = tie.close (tie.spec returns tally-requires returns-2 unused-requires returns-3)

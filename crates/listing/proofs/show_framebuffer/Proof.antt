@@ -1,13 +1,13 @@
 use Prim.Native.Nat.{_-_}
 use borrow.Author.Needs.{needs}
-use Rattle.listing.proofs.show_glass.Statement.{statement}
-use Rattle.listing.proofs.show_glass.Tie as tie
+use Rattle.listing.proofs.show_framebuffer.Statement.{statement}
+use Rattle.listing.proofs.show_framebuffer.Tie as tie
 
 abbrev Inv-loop : tie.InvT-loop
-Inv-loop glass y₀ y = Unit {0}
+Inv-loop framebuffer y₀ y = Unit {0}
 
 abbrev μ-loop : tie.MeasureT-loop
-μ-loop glass y₀ y = 64 - y
+μ-loop framebuffer y₀ y = 64 - y
 
 slice-aggregate-write-all : tie.Need-slice-aggregate-write-all Inv-loop μ-loop
 slice-aggregate-write-all c = search needs
@@ -33,8 +33,8 @@ loop-again c = search needs
 returns : tie.Need-returns Inv-loop μ-loop
 returns c = search needs
 
-pub show-glass-spec : {M : Type 1} → statement M
-show-glass-spec =
+pub show-framebuffer-spec : {M : Type 1} → statement M
+show-framebuffer-spec =
     tie.close
     (tie.spec
     Inv-loop
