@@ -6,7 +6,7 @@ use mathlib.Core.Bool.{Bool, true, false, cond, not, _&&_, _||_, true≢false}
 use Prim.Native.Nat.{ℕ, zero, suc, _+_, _/_, _%_, _<_, _≤_}
 use native.Mathlib.Omega.{arith}
 use lib.Dec.{eqb}
-use lib.ListN.{length, getD, replicate, length-replicate}
+use lib.ListN.{length, getD, take, replicate, length-replicate}
 use borrow.Author.Tests.{eq-eqb, eqb-true}
 use Rattle.pixels.specs.Framebuffer.{height}
 use Rattle.pixels.proofs.Tests.{by-test}
@@ -30,23 +30,26 @@ use Rattle.record.proofs.Round.{decode-encode, encode-decode, encoded-sound, pa
 use Rattle.rules.specs.World.{World, world, port}
 use Rattle.rules.specs.Files.{inUse, lacksSpace}
 use Rattle.rules.specs.Step.{step}
-use Rattle.rules.specs.Calls.{run, said}
+use Rattle.rules.specs.Calls.{run, said, taken}
 use Rattle.rules.specs.Events.{view, event}
 use Rattle.rules.specs.History.{refusedOf, lastOf}
-use Rattle.rules.specs.Chunks.{Chunk, joined, EnoughAll}
+use Rattle.rules.specs.Chunks.{joined, EnoughAll}
 use Rattle.rules.specs.Sound.{Bytes, Welcome, Good}
 use Rattle.rules.proofs.ByByte.{demand-3}
 use Rattle.rules.proofs.Replies.{said-fits}
 use Rattle.rules.proofs.Counts.{refusal-count, last-refusal}
 use Rattle.rules.proofs.GoodByte.{good-step, good-start, framebuffer-length, store-length}
 use Rattle.calls.specs.Memory.{framebufferBytes, Memory, storeFits, uploadRefused, checked, loaded, saved, Kept}
-use Rattle.calls.specs.Feed.{Fed, fed, feedOf}
+use Rattle.calls.specs.Feed.{Fed, fed, fedBytes, feedOf}
 use Rattle.calls.specs.Line.{bothSound}
-use Rattle.calls.specs.Start.{emptied, startChecked, startOf}
-use Rattle.calls.specs.List.{Board, board, Call, afterAll, consumedAll, sentAll, pieces}
+use Rattle.calls.specs.Start.{emptied, startChecked, startOf, startWorld}
+use Rattle.calls.specs.List.{Board, board, Call, afterAll, consumedAll, sentAll, chunksIn}
+use Rattle.calls.specs.Bytes.{AllBytes, BytesInAll, ByteMemory}
+use Rattle.calls.specs.Served.{Served}
+use Rattle.calls.proofs.Inside.{bars-inside, consumed-bytes}
 use Rattle.calls.proofs.LineCalls.{emptied-sound}
 use Rattle.calls.proofs.Bridge.{fits, port-fits, panel-fits}
-use Rattle.calls.proofs.Lists.{BytesInAll, both-true, streamed, consumed-whole}
+use Rattle.calls.proofs.Lists.{take-bytes, both-true, good-run, fed-saved, streamed, consumed-whole}
 
 -- ---- worlds that every check passes
 
@@ -87,13 +90,21 @@ pass w k =
     let u = welcome-passes (w .state .port .phase) (w .store) (k .good .upload) in
     rw (eq-eqb (length (w .framebuffer)) 1920 (k .framebuffer), k .store, record-sound w k, k .good .store .valid, d, u)
 
--- ---- memory that passes the checks is such a world, written
+pub kept-run : (w : World) (l : List ℕ) → Kept w → AllBytes l → Kept (run w l)
+kept-run = good-run Kept kept-step back pass record-sound
 
--- every byte lent is a byte
-pub record ByteMemory (m : Memory) : Type 0 where
-  pub framebuffer : Bytes (m .framebuffer)
-  pub store : Bytes (m .store)
-  pub state : Bytes (m .state)
+-- written and read back
+pub loaded-saved : (w : World) → Kept w → loaded (saved w) ≡ w
+loaded-saved w k = rw (back w k)
+
+-- what a piece comes to, and when the line is served
+pub fed-kept : (w : World) (p : List ℕ) (room : ℕ) → Kept w → feedOf (saved w) p room ≡ fedBytes w p (taken w room p)
+fed-kept = fed-saved Kept kept-step back pass record-sound
+
+pub line-kept : (w : World) (q : List ℕ) → Kept w → bothSound (encodeOf (w .state)) q ≡ queue-record.soundRecord q
+line-kept w q k = rw (record-sound w k)
+
+-- ---- memory that passes the checks is such a world, written
 
 never : (k : ℕ) → suc k ≡ 0 → ⊥
 never k e = omega (arith, e)
@@ -162,23 +173,9 @@ saved-loaded m e = rw (encode-decode 64 (m .state) (checks m e .state))
 
 -- ---- any list of calls
 
--- WHAT HOLDS AFTER A LIST OF CALLS
-pub record Served (b : Board) (cs : List Call) : Type 0 where
-  -- the memory is what the bytes consumed leave, and what was sent is what they send: one stream, however it was cut
-  pub stream : afterAll b cs .memory ≡ saved (run (loaded (b .memory)) (consumedAll b cs))
-  pub sent : sentAll b cs ≡ said (loaded (b .memory)) (consumedAll b cs)
-  -- demand 3, after them all and after every byte
-  pub bars : Agrees view step event (loaded (b .memory)) (consumedAll b cs)
-  -- the history of refusals
-  pub count : decodeOf (afterAll b cs .memory .state) .port .refusals .count ≡ (port (loaded (b .memory)) .refusals .count + refusedOf (loaded (b .memory)) (consumedAll b cs)) % 65536
-  pub last : decodeOf (afterAll b cs .memory .state) .port .refusals .last ≡ lastOf (loaded (b .memory)) (consumedAll b cs) (port (loaded (b .memory)) .refusals .last)
-  -- the next call passes the checks again: a piece, and an arrival or a take
-  pub again : checked (afterAll b cs .memory) ≡ 0
-  pub line-again : bothSound (afterAll b cs .memory .state) (afterAll b cs .queue) ≡ true
-
-served-saved : (w : World) (q : List ℕ) (cs : List Call) → Kept w → queue-record.soundRecord q ≡ true → BytesInAll cs → Served (board (saved w) q) cs
-served-saved w q cs k f h =
-    let s = streamed Kept kept-step back pass record-sound w q cs k f h in
+served-saved : (w : World) (q : List ℕ) (cs : List Call) → Kept w → BytesInAll cs → Served (board (saved w) q) cs
+served-saved w q cs k h =
+    let s = streamed Kept kept-step back pass record-sound w q cs k h in
     let d = back w k in
     let l = consumedAll (board (saved w) q) cs in
     let v = run w l in
@@ -187,24 +184,26 @@ served-saved w q cs k f h =
     let e = ap (λ (m : Memory). decodeOf (m .state) .port .refusals) (s .left) ∙ ap (λ (t : State). t .port .refusals) (back v (s .kept)) in
     record {
       stream = rw d (s .left);
+      reads = rw d (ap loaded (s .left) ∙ loaded-saved v (s .kept));
       sent = rw d (s .sent);
       bars = rw d (demand-3 w z l);
+      inside = rw d (λ n. bars-inside (run w (take n l)) (kept-run w (take n l) k (take-bytes n l (consumed-bytes (board (saved w) q) cs h))));
       count = rw d (ap (λ (r : Refusals). r .count) e ∙ refusal-count w l z c);
       last = rw d (ap (λ (r : Refusals). r .last) e ∙ last-refusal w l z c);
       again = ap checked (s .left) ∙ pass v (s .kept);
-      line-again = both-true _ _ (ap (λ (m : Memory). soundRecord 64 (m .state)) (s .left) ∙ record-sound v (s .kept)) (s .queue-kept);
+      line-again = λ f. both-true _ _ (ap (λ (m : Memory). soundRecord 64 (m .state)) (s .left) ∙ record-sound v (s .kept)) (s .queue-kept f);
     }
 
--- THE THEOREM, from any memory that passes the checks and any sound queue
-pub calls-served : (m : Memory) (q : List ℕ) (cs : List Call) → ByteMemory m → checked m ≡ 0 → queue-record.soundRecord q ≡ true → BytesInAll cs → Served (board m q) cs
-calls-served m q cs b e f h = subst (λ (n : Memory). Served (board n q) cs) (saved-loaded m e) (served-saved (loaded m) q cs (checked-kept m b e) f h)
+-- THE THEOREM, from any memory that passes the checks and any queue record
+pub calls-served : (m : Memory) (q : List ℕ) (cs : List Call) → ByteMemory m → checked m ≡ 0 → BytesInAll cs → Served (board m q) cs
+calls-served m q cs b e h = subst (λ (n : Memory). Served (board n q) cs) (saved-loaded m e) (served-saved (loaded m) q cs (checked-kept m b e) h)
 
--- DEMAND 2: with two free reply bytes before each byte the pieces are consumed whole
-pub pieces-whole : (m : Memory) (q : List ℕ) (ps : List Chunk) → ByteMemory m → checked m ≡ 0 → BytesInAll (pieces ps) → EnoughAll (loaded m) ps
-    → consumedAll (board m q) (pieces ps) ≡ joined ps
-pieces-whole m q ps b e h t =
-    subst (λ (n : Memory). consumedAll (board n q) (pieces ps) ≡ joined ps) (saved-loaded m e)
-    (consumed-whole Kept kept-step back pass record-sound (loaded m) q ps (checked-kept m b e) h t)
+-- DEMAND 2: with two free reply bytes before each byte the pieces are consumed whole, whatever calls come between
+pub pieces-whole : (m : Memory) (q : List ℕ) (cs : List Call) → ByteMemory m → checked m ≡ 0 → BytesInAll cs → EnoughAll (loaded m) (chunksIn cs)
+    → consumedAll (board m q) cs ≡ joined (chunksIn cs)
+pieces-whole m q cs b e h t =
+    subst (λ (n : Memory). consumedAll (board n q) cs ≡ joined (chunksIn cs)) (saved-loaded m e)
+    (consumed-whole Kept kept-step back pass record-sound (loaded m) q cs (checked-kept m b e) h t)
 
 -- a piece refused with 1 to 4 alters nothing, consumes nothing and sends nothing
 pub refused-untouched : (m : Memory) (p : List ℕ) (room : ℕ) → eqb (checked m) 0 ≡ false → feedOf m p room ≡ fed m (checked m) 0 []
@@ -242,10 +241,6 @@ start-checks m q e =
     let d = both (eqb (length (m .state)) recordSize) (eqb (length q) queue-record.recordSize) (c .0) in
     record { queue-size = eqb-true (length q) 85 (d .1); store = b .0; valid = unanswered (validOf (m .store)) 3 0 (c .1) .0 }
 
--- the world that a start leaves
-abbrev pub startWorld : List ℕ → World
-startWorld s = world (replicate framebufferBytes 0) s (startState 64)
-
 pub start-kept : (m : Memory) (q : List ℕ) → Bytes (m .store) → startChecked m q ≡ 0 → Kept (startWorld (m .store))
 start-kept m q b e =
     let c = start-checks m q e in
@@ -261,9 +256,25 @@ start-passes m q b e =
     let k = start-kept m q b e in
     rw e (pass (startWorld (m .store)) k, rw (back (startWorld (m .store)) k))
 
+-- and the queue record is sound
+pub start-queue : (m : Memory) (q : List ℕ) → startChecked m q ≡ 0 → queue-record.soundRecord (startOf m q .queue) ≡ true
+unfolding startOf
+start-queue m q e = rw e (emptied-sound q (start-checks m q e .queue-size))
+
+-- what it leaves is that world, written, and an empty queue
+pub start-left : (m : Memory) (q : List ℕ) → startChecked m q ≡ 0 → board (saved (startWorld (m .store))) (emptied q) ≡ board (startOf m q .left) (startOf m q .queue)
+unfolding startOf
+start-left m q e = rw e
+
+pub started-whole : (m : Memory) (q : List ℕ) (cs : List Call) → Bytes (m .store) → startChecked m q ≡ 0 → BytesInAll cs → EnoughAll (startWorld (m .store)) (chunksIn cs)
+    → consumedAll (board (startOf m q .left) (startOf m q .queue)) cs ≡ joined (chunksIn cs)
+started-whole m q cs b e h t =
+    subst (λ (x : Board). consumedAll x cs ≡ joined (chunksIn cs)) (start-left m q e)
+    (consumed-whole Kept kept-step back pass record-sound (startWorld (m .store)) (emptied q) cs (start-kept m q b e) h t)
+
 -- THE THEOREM, from a start that answers 0
 pub started-served : (m : Memory) (q : List ℕ) (cs : List Call) → Bytes (m .store) → startChecked m q ≡ 0 → BytesInAll cs
     → Served (board (startOf m q .left) (startOf m q .queue)) cs
 unfolding startOf
 started-served m q cs b e h =
-    rw e (served-saved (startWorld (m .store)) (emptied q) cs (start-kept m q b e) (emptied-sound q (start-checks m q e .queue-size)) h)
+    rw e (served-saved (startWorld (m .store)) (emptied q) cs (start-kept m q b e) h)

@@ -14,29 +14,16 @@ use Rattle.queue.specs.Record as queue-record
 use Rattle.rules.specs.World.{World}
 use Rattle.rules.specs.Step.{step}
 use Rattle.rules.specs.Calls.{run, said, taken}
-use Rattle.rules.specs.Chunks.{Chunk, joined, EnoughAll}
+use Rattle.rules.specs.Chunks.{joined, EnoughAll}
 use Rattle.rules.proofs.Streams.{run-append, said-append, taken-whole}
 use Rattle.calls.specs.Memory.{checked, loaded, saved}
 use Rattle.calls.specs.Feed.{Fed, fedBytes, feedOf}
 use Rattle.calls.specs.Line.{bothSound, arriveCall, takeCall}
-use Rattle.calls.specs.List.{board, Call, feeds, arrives, takes, afterAll, consumedAll, sentAll, pieces}
+use Rattle.calls.specs.List.{board, Call, feeds, arrives, takes, afterAll, consumedAll, sentAll, chunksIn}
+use Rattle.calls.specs.Bytes.{AllBytes, BytesInAll}
 use Rattle.calls.proofs.LineCalls.{arrive-again, take-again}
 
--- bytes handed in
-abbrev pub AllBytes : List ℕ → Type 0
-AllBytes [] = Unit {0}
-AllBytes (b ∷ l) = (b < 256) × AllBytes l
-
-abbrev pub BytesIn : Call → Type 0
-BytesIn (feeds p room) = AllBytes p
-BytesIn (arrives x) = x < 256
-BytesIn takes = Unit {0}
-
-abbrev pub BytesInAll : List Call → Type 0
-BytesInAll [] = Unit {0}
-BytesInAll (c ∷ cs) = BytesIn c × BytesInAll cs
-
-take-bytes : (n : ℕ) (l : List ℕ) → AllBytes l → AllBytes (take n l)
+pub take-bytes : (n : ℕ) (l : List ℕ) → AllBytes l → AllBytes (take n l)
 take-bytes zero l h = tt
 take-bytes (suc n) [] h = tt
 take-bytes (suc n) (b ∷ l) h = (h .0, take-bytes n l (h .1))
@@ -69,14 +56,14 @@ module _ (Good : World → Type 0) (good : (w : World) (b : ℕ) → Good w → 
     pub left : afterAll (board (saved w) q) cs .memory ≡ saved (run w (consumedAll (board (saved w) q) cs))
     pub sent : sentAll (board (saved w) q) cs ≡ said w (consumedAll (board (saved w) q) cs)
     pub kept : Good (run w (consumedAll (board (saved w) q) cs))
-    pub queue-kept : queue-record.soundRecord (afterAll (board (saved w) q) cs .queue) ≡ true
+    pub queue-kept : queue-record.soundRecord q ≡ true → queue-record.soundRecord (afterAll (board (saved w) q) cs .queue) ≡ true
 
   -- one piece, and then the rest
   record Pieced (w : World) (p q : List ℕ) (cs : List Call) (f : Fed) : Type 0 where
     pub left : afterAll (board (f .left) q) cs .memory ≡ saved (run w (take (f .consumed) p ++ consumedAll (board (f .left) q) cs))
     pub sent : f .sent ++ sentAll (board (f .left) q) cs ≡ said w (take (f .consumed) p ++ consumedAll (board (f .left) q) cs)
     pub kept : Good (run w (take (f .consumed) p ++ consumedAll (board (f .left) q) cs))
-    pub queue-kept : queue-record.soundRecord (afterAll (board (f .left) q) cs .queue) ≡ true
+    pub queue-kept : queue-record.soundRecord q ≡ true → queue-record.soundRecord (afterAll (board (f .left) q) cs .queue) ≡ true
 
   pieced : (w : World) (p q : List ℕ) (n : ℕ) (cs : List Call) → Streamed (run w (take n p)) q cs → Pieced w p q cs (fedBytes w p n)
   pieced w p q n cs i =
@@ -90,33 +77,34 @@ module _ (Good : World → Type 0) (good : (w : World) (b : ℕ) → Good w → 
         queue-kept = i .queue-kept;
       }
 
-  pub streamed : (w : World) (q : List ℕ) (cs : List Call) → Good w → queue-record.soundRecord q ≡ true → BytesInAll cs → Streamed w q cs
+  pub streamed : (w : World) (q : List ℕ) (cs : List Call) → Good w → BytesInAll cs → Streamed w q cs
   unfolding afterAll consumedAll sentAll run said
-  streamed w q [] g s h = record { left = refl; sent = refl; kept = g; queue-kept = s }
-  streamed w q (arrives x ∷ cs) g s h =
-      let i = streamed w (arriveCall (encodeOf (w .state)) q x .queue) cs g (arrive-again (encodeOf (w .state)) q x (line-sound w q g s)) (h .1) in
-      record { left = i .left; sent = i .sent; kept = i .kept; queue-kept = i .queue-kept }
-  streamed w q (takes ∷ cs) g s h =
-      let i = streamed w (takeCall (encodeOf (w .state)) q .queue) cs g (take-again (encodeOf (w .state)) q (line-sound w q g s)) (h .1) in
-      record { left = i .left; sent = i .sent; kept = i .kept; queue-kept = i .queue-kept }
-  streamed w q (feeds p room ∷ cs) g s h =
+  streamed w q [] g h = record { left = refl; sent = refl; kept = g; queue-kept = λ s. s }
+  streamed w q (arrives x ∷ cs) g h =
+      let i = streamed w (arriveCall (encodeOf (w .state)) q x .queue) cs g (h .1) in
+      record { left = i .left; sent = i .sent; kept = i .kept; queue-kept = λ s. i .queue-kept (arrive-again (encodeOf (w .state)) q x (line-sound w q g s)) }
+  streamed w q (takes ∷ cs) g h =
+      let i = streamed w (takeCall (encodeOf (w .state)) q .queue) cs g (h .1) in
+      record { left = i .left; sent = i .sent; kept = i .kept; queue-kept = λ s. i .queue-kept (take-again (encodeOf (w .state)) q (line-sound w q g s)) }
+  streamed w q (feeds p room ∷ cs) g h =
       let n = taken w room p in
-      let i = streamed (run w (take n p)) q cs (good-run w (take n p) g (take-bytes n p (h .0))) s (h .1) in
+      let i = streamed (run w (take n p)) q cs (good-run w (take n p) g (take-bytes n p (h .0))) (h .1) in
       let t = subst (λ (f : Fed). Pieced w p q cs f) (sym (fed-saved w p room g)) (pieced w p q n cs i) in
       record { left = t .left; sent = t .sent; kept = t .kept; queue-kept = t .queue-kept }
 
   -- pieces with two free reply bytes before each byte are consumed whole
-  whole-then : (w : World) (p q : List ℕ) (n : ℕ) (ps : List Chunk) (f : Fed) → f ≡ fedBytes w p n → take n p ≡ p
-      → consumedAll (board (saved (run w p)) q) (pieces ps) ≡ joined ps → take (f .consumed) p ++ consumedAll (board (f .left) q) (pieces ps) ≡ p ++ joined ps
-  whole-then w p q n ps f e t i = rw (e, t) (ap (λ (l : List ℕ). p ++ l) i)
+  whole-then : (w : World) (p q : List ℕ) (n : ℕ) (cs : List Call) (f : Fed) → f ≡ fedBytes w p n → take n p ≡ p
+      → consumedAll (board (saved (run w p)) q) cs ≡ joined (chunksIn cs) → take (f .consumed) p ++ consumedAll (board (f .left) q) cs ≡ p ++ joined (chunksIn cs)
+  whole-then w p q n cs f e t i = rw (e, t) (ap (λ (l : List ℕ). p ++ l) i)
 
-  pub consumed-whole : (w : World) (q : List ℕ) (ps : List Chunk) → Good w → BytesInAll (pieces ps) → EnoughAll w ps
-      → consumedAll (board (saved w) q) (pieces ps) ≡ joined ps
-  unfolding pieces joined EnoughAll consumedAll
+  pub consumed-whole : (w : World) (q : List ℕ) (cs : List Call) → Good w → BytesInAll cs → EnoughAll w (chunksIn cs)
+      → consumedAll (board (saved w) q) cs ≡ joined (chunksIn cs)
+  unfolding chunksIn joined EnoughAll consumedAll
   consumed-whole w q [] g h e = refl
-  consumed-whole w q (c ∷ ps) g h e =
-      let p = c .bytes in
-      let n = taken w (c .room) p in
-      let t : take n p ≡ p = ap (λ (k : ℕ). take k p) (taken-whole w (c .room) p (e .0)) ∙ take-all (length p) p (omega arith) in
-      let i = consumed-whole (run w p) q ps (good-run w p g (h .0)) (h .1) (e .1) in
-      whole-then w p q n ps (feedOf (saved w) p (c .room)) (fed-saved w p (c .room) g) t i
+  consumed-whole w q (arrives x ∷ cs) g h e = consumed-whole w (arriveCall (encodeOf (w .state)) q x .queue) cs g (h .1) e
+  consumed-whole w q (takes ∷ cs) g h e = consumed-whole w (takeCall (encodeOf (w .state)) q .queue) cs g (h .1) e
+  consumed-whole w q (feeds p room ∷ cs) g h e =
+      let n = taken w room p in
+      let t : take n p ≡ p = ap (λ (k : ℕ). take k p) (taken-whole w room p (e .0)) ∙ take-all (length p) p (omega arith) in
+      let i = consumed-whole (run w p) q cs (good-run w p g (h .0)) (h .1) (e .1) in
+      whole-then w p q n cs (feedOf (saved w) p room) (fed-saved w p room g) t i

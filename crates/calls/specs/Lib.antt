@@ -3,3 +3,5 @@ pub mod Feed
 pub mod Start
 pub mod Line
 pub mod List
+pub mod Bytes
+pub mod Served

@@ -50,7 +50,9 @@ unfoldable pub sentAll : Board → List Call → List ℕ
 sentAll b [] = []
 sentAll b (c ∷ cs) = sentBy b c ++ sentAll (afterCall b c) cs
 
--- a stream handed in as these pieces
-unfoldable pub pieces : List Chunk → List Call
-pieces [] = []
-pieces (p ∷ ps) = feeds (p .bytes) (p .room) ∷ pieces ps
+-- the pieces among them, which a stream was cut into
+unfoldable pub chunksIn : List Call → List Chunk
+chunksIn [] = []
+chunksIn (feeds p room ∷ cs) = record { bytes = p; room = room } ∷ chunksIn cs
+chunksIn (arrives x ∷ cs) = chunksIn cs
+chunksIn (takes ∷ cs) = chunksIn cs

@@ -8,6 +8,7 @@ use lib.ListN.{length, take, replicate}
 use Rattle.directory.specs.Directory.{validOf}
 use Rattle.queue.specs.Record as queue-record
 use Rattle.state.specs.State.{startState}
+use Rattle.rules.specs.World.{World, world}
 use Rattle.record.specs.Layout.{recordSize}
 use Rattle.record.specs.Writing.{encodeOf}
 use Rattle.calls.specs.Memory.{framebufferRows, framebufferBytes, storeFits, Memory, memory}
@@ -36,3 +37,7 @@ unfoldable pub startOf : Memory → List ℕ → Started
 startOf m q =
     cond (eqb (startChecked m q) 0) (started (memory (replicate framebufferBytes 0) (m .store) (encodeOf (startState framebufferRows))) (emptied q) 0)
     (started m q (startChecked m q))
+
+-- the world that a start leaves
+abbrev pub startWorld : List ℕ → World
+startWorld s = world (replicate framebufferBytes 0) s (startState framebufferRows)

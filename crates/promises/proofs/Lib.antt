@@ -1,6 +1,8 @@
 pub mod Refusals
+pub mod Unmoved
 pub mod Lists
-pub mod Streams
+pub mod Answers
 pub mod Bars
-pub mod Examples
+pub mod Streams
 pub mod Lost
+pub mod Examples

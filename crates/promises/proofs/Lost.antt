@@ -1,6 +1,6 @@
 -- THE LOST COUNT over every list of calls: the arrivals that answered 7, counted on from where it began, modulo 65,536.
 -- Assumes nothing.
-use mathlib.Core.Path.{_≡_, _∙_, ap}
+use mathlib.Core.Path.{_≡_, _∙_, refl, ap}
 use mathlib.Core.Bool.{true, cond}
 use mathlib.Core.List.{List, [], _∷_}
 use native.Mathlib.Omega.{arith}
@@ -17,8 +17,10 @@ use Rattle.queue.proofs.Round.{decode-encode, decoded-sound}
 use Rattle.calls.specs.Line.{Served, bothSound, flowIn, arriveCall, takeCall}
 use Rattle.calls.specs.List.{Board, board}
 use Rattle.calls.proofs.LineCalls.{queue-sound}
-use Rattle.promises.specs.Made.{Made, fed, astray, MeetsAll, leftAll, allDropped}
+use Rattle.promises.specs.Made.{Made, fed, refusedFeed, refusedArrive, refusedTake, refusedStart, lent, MeetsAll, left, leftAll, allDropped}
 use Rattle.promises.specs.Made as made
+use Rattle.promises.proofs.Refusals.{refused-arrive}
+use Rattle.promises.proofs.Unmoved.{feed-unmoved, arrive-unmoved, take-unmoved, start-unmoved}
 
 -- the count in a queue record
 abbrev pub lost : List ℕ → ℕ
@@ -51,6 +53,10 @@ take-lost st q =
 joined : (a d n m r : ℕ) → m % 65536 ≡ (a + d) % 65536 → r ≡ (m + n) % 65536 → r ≡ (a + (d + n)) % 65536
 joined a d n m r e f = omega arith
 
+-- a call that left the board as it was drops nothing
+stayed : (b x : Board) (d n r : ℕ) → x ≡ b → d ≡ 0 → r ≡ (lost (x .queue) + n) % 65536 → r ≡ (lost (b .queue) + (d + n)) % 65536
+stayed b x d n r e f h = let q : lost (x .queue) ≡ lost (b .queue) = ap (λ (y : Board). lost (y .queue)) e in omega (arith, q, f, h)
+
 pub lost-counted : (b : Board) (l : List Made) → MeetsAll b l → lost (leftAll b l .queue) % 65536 ≡ (lost (b .queue) + allDropped l) % 65536
 unfolding MeetsAll leftAll allDropped
 lost-counted b [] h = omega arith
@@ -61,4 +67,9 @@ lost-counted b (made.arrived x s ∷ l) h =
 lost-counted b (made.handed s ∷ l) h =
     let e : lost (s .queue) % 65536 ≡ (lost (b .queue) + 0) % 65536 = rw (h .0) (take-lost (b .memory .state) (b .queue)) in
     joined (lost (b .queue)) 0 (allDropped l) (lost (s .queue)) _ e (lost-counted (board (b .memory) (s .queue)) l (h .1))
-lost-counted b (astray m p r c ∷ l) h = joined (lost (b .queue)) 0 (allDropped l) (lost (b .queue)) _ (omega arith) (lost-counted b l (h .1))
+lost-counted b (refusedFeed z p r c ∷ l) h = stayed b (left b (refusedFeed z p r c)) 0 (allDropped l) _ (feed-unmoved b z p r c (h .0)) refl (lost-counted _ l (h .1))
+lost-counted b (refusedArrive t k x s ∷ l) h =
+    let e = refused-arrive (lent t (b .memory .state)) (lent k (b .queue)) x s (h .0 .0) (h .0 .1) in
+    stayed b (left b (refusedArrive t k x s)) _ (allDropped l) _ (arrive-unmoved b t k x s (h .0)) (ap (λ (y : Served). cond (eqb (y .answer) 7) 1 0) e) (lost-counted _ l (h .1))
+lost-counted b (refusedTake t k s ∷ l) h = stayed b (left b (refusedTake t k s)) 0 (allDropped l) _ (take-unmoved b t k s (h .0)) refl (lost-counted _ l (h .1))
+lost-counted b (refusedStart z k s ∷ l) h = stayed b (left b (refusedStart z k s)) 0 (allDropped l) _ (start-unmoved b z k s (h .0)) refl (lost-counted _ l (h .1))

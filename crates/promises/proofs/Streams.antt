@@ -1,28 +1,38 @@
--- DEMAND 2 of the exported functions: a stream cut into pieces in any way, with two free reply bytes before each byte, gives what the whole gives.
+-- DEMAND 2 of the exported functions: a stream cut into pieces in any way, with two free reply bytes before each byte, gives what the whole gives,
+-- whatever arrivals, takes and refused calls come between.
 -- Assumes nothing.
-use mathlib.Core.Path.{_≡_, _∙_, ap, subst, sym}
+use mathlib.Core.Path.{_≡_, _∙_, sym, ap}
 use mathlib.Core.List.{List}
-use mathlib.Core.Bool.{true}
 use Prim.Native.Nat.{ℕ}
-use Rattle.queue.specs.Record as queue-record
 use Rattle.rules.specs.Calls.{run, said}
-use Rattle.rules.specs.Chunks.{Chunk, joined, EnoughAll}
+use Rattle.rules.specs.Chunks.{joined, EnoughAll}
+use Rattle.rules.specs.Sound.{Bytes}
 use Rattle.calls.specs.Memory.{Memory, checked, loaded, saved}
-use Rattle.calls.specs.List.{board, pieces}
-use Rattle.calls.proofs.Lists.{BytesInAll}
-use Rattle.calls.proofs.Demands.{ByteMemory, pieces-whole}
+use Rattle.calls.specs.Start.{Started, startChecked, startOf, startWorld}
+use Rattle.calls.specs.List.{Board, board, chunksIn, consumedAll}
+use Rattle.calls.specs.Bytes.{BytesInAll, ByteMemory}
+use Rattle.calls.proofs.Demands.{pieces-whole, started-whole}
 use Rattle.promises.specs.Made.{Made, MeetsAll, leftAll, allConsumed, allSent, callsOf}
+use Rattle.promises.specs.Promise.{Promise, Whole}
 use Rattle.promises.proofs.Lists.{same}
-use Rattle.promises.proofs.Bars.{promised}
+use Rattle.promises.proofs.Bars.{promised, promised-from-start}
 
-pub record Whole (m : Memory) (q : List ℕ) (l : List Made) (ps : List Chunk) : Type 0 where
-  pub consumed : allConsumed l ≡ joined ps
-  pub memory : leftAll (board m q) l .memory ≡ saved (run (loaded m) (joined ps))
-  pub sent : allSent l ≡ said (loaded m) (joined ps)
+carried : (b : Board) (l : List Made) → MeetsAll b l → Promise b l → consumedAll b (callsOf l) ≡ joined (chunksIn (callsOf l)) → Whole b l
+carried b l h p e =
+    let c : allConsumed l ≡ joined (chunksIn (callsOf l)) = same b l h .consumed-same ∙ e in
+    record { consumed = c; memory = p .stream ∙ ap (λ (x : List ℕ). saved (run (loaded (b .memory)) x)) c; sent = p .sent ∙ ap (said (loaded (b .memory))) c }
 
-pub cut-anyhow : (m : Memory) (q : List ℕ) (l : List Made) (ps : List Chunk) → ByteMemory m → checked m ≡ 0 → queue-record.soundRecord q ≡ true → MeetsAll (board m q) l
-    → callsOf l ≡ pieces ps → BytesInAll (pieces ps) → EnoughAll (loaded m) ps → Whole m q l ps
-cut-anyhow m q l ps b e f h cut i enough =
-    let p = promised m q l b e f h (subst BytesInAll (sym cut) i) in
-    let c : allConsumed l ≡ joined ps = same (board m q) l h .consumed-same ∙ rw cut (pieces-whole m q ps b e i enough) in
-    record { consumed = c; memory = p .stream ∙ ap (λ (x : List ℕ). saved (run (loaded m) x)) c; sent = p .sent ∙ ap (said (loaded m)) c }
+pub cut-anyhow : (m : Memory) (q : List ℕ) (l : List Made) → ByteMemory m → checked m ≡ 0 → MeetsAll (board m q) l → BytesInAll (callsOf l)
+    → EnoughAll (loaded m) (chunksIn (callsOf l)) → Whole (board m q) l
+cut-anyhow m q l b e h i enough = carried (board m q) l h (promised m q l b e h i) (pieces-whole m q (callsOf l) b e i enough)
+
+pub cut-from-start : (m : Memory) (q : List ℕ) (s : Started) (l : List Made) → s ≡ startOf m q → Bytes (m .store) → startChecked m q ≡ 0
+    → MeetsAll (board (s .left) (s .queue)) l → BytesInAll (callsOf l) → EnoughAll (startWorld (m .store)) (chunksIn (callsOf l)) → Whole (board (s .left) (s .queue)) l
+cut-from-start m q s l e b c h i enough =
+    carried (board (s .left) (s .queue)) l h (promised-from-start m q s l e b c h i) (rw e (started-whole m q (callsOf l) b c i enough))
+
+-- two ways to cut one stream
+pub however-cut : (b : Board) (l k : List Made) → Whole b l → Whole b k → joined (chunksIn (callsOf l)) ≡ joined (chunksIn (callsOf k))
+    → (leftAll b l .memory ≡ leftAll b k .memory) × (allSent l ≡ allSent k)
+however-cut b l k x y e =
+    (x .memory ∙ ap (λ (z : List ℕ). saved (run (loaded (b .memory)) z)) e ∙ sym (y .memory), x .sent ∙ ap (said (loaded (b .memory))) e ∙ sym (y .sent))

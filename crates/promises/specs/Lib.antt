@@ -1,2 +1,4 @@
 pub mod Made
+pub mod Answers
+pub mod Promise
 pub mod Examples

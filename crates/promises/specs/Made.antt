@@ -7,32 +7,74 @@ use mathlib.Core.Bool.{false, cond}
 use Prim.Native.Nat.{ℕ, _+_}
 use lib.Dec.{eqb}
 use lib.ListN.{length, take}
-use Rattle.calls.specs.Memory.{Memory, checked}
-use Rattle.calls.specs.Line.{Served, arriveCall, takeCall}
+use Rattle.calls.specs.Memory.{Memory, memory, checked}
+use Rattle.calls.specs.Start.{Started, startChecked, startOf}
+use Rattle.calls.specs.Line.{Served, bothSound, arriveCall, takeCall}
 use Rattle.calls.specs.List.{Board, board, Call, feeds, arrives, takes}
 use Rattle.display.specs.Exports.{Called, feedCall}
 
+-- ---- what is lent
+
+-- in the place of one of the display's own slices: that very slice, or another one, of any length and content
+pub data Slice : Type 0 where
+  own : Slice
+  other : List ℕ → Slice
+
+abbrev pub lent : Slice → List ℕ → List ℕ
+lent own g = g
+lent (other h) g = h
+
+-- the display's own slice g after a call that left k in what it was lent
+abbrev pub returned : Slice → List ℕ → List ℕ → List ℕ
+returned own g k = k
+returned (other h) g k = g
+
+pub record Slices : Type 0 where
+  pub framebuffer : Slice
+  pub store : Slice
+  pub state : Slice
+
+abbrev pub lentMemory : Slices → Memory → Memory
+lentMemory z m = memory (lent (z .framebuffer) (m .framebuffer)) (lent (z .store) (m .store)) (lent (z .state) (m .state))
+
+abbrev pub returnedMemory : Slices → Memory → Memory → Memory
+returnedMemory z m n =
+    memory (returned (z .framebuffer) (m .framebuffer) (n .framebuffer)) (returned (z .store) (m .store) (n .store)) (returned (z .state) (m .state) (n .state))
+
+-- ---- the calls
+
 pub data Made : Type 0 where
-  -- display_feed of a piece with these reply bytes
+  -- display_feed of a piece with these reply bytes, display_arrive of a byte, and display_take, lent the display's own memory
   fed : List ℕ → List ℕ → Called → Made
-  -- display_arrive of a byte, and display_take
   arrived : ℕ → Served → Made
   handed : Served → Made
-  -- display_feed lent memory of another length or content, which the checks refuse: calls refused with 1 to 4 may come between
-  astray : Memory → List ℕ → List ℕ → Called → Made
+  -- calls refused with 1 to 4 may come between, lent whatever it be: display_feed, display_arrive, display_take, display_start
+  refusedFeed : Slices → List ℕ → List ℕ → Called → Made
+  refusedArrive : Slice → Slice → ℕ → Served → Made
+  refusedTake : Slice → Slice → Served → Made
+  refusedStart : Slices → Slice → Started → Made
 
 abbrev pub Meets : Board → Made → Type 0
 Meets b (fed p r c) = c ≡ feedCall (b .memory) p r
 Meets b (arrived x s) = s ≡ arriveCall (b .memory .state) (b .queue) x
 Meets b (handed s) = s ≡ takeCall (b .memory .state) (b .queue)
-Meets b (astray m p r c) = (c ≡ feedCall m p r) × (eqb (checked m) 0 ≡ false)
+Meets b (refusedFeed z p r c) = (c ≡ feedCall (lentMemory z (b .memory)) p r) × (eqb (checked (lentMemory z (b .memory))) 0 ≡ false)
+Meets b (refusedArrive t k x s) =
+    (s ≡ arriveCall (lent t (b .memory .state)) (lent k (b .queue)) x) × (bothSound (lent t (b .memory .state)) (lent k (b .queue)) ≡ false)
+Meets b (refusedTake t k s) =
+    (s ≡ takeCall (lent t (b .memory .state)) (lent k (b .queue))) × (bothSound (lent t (b .memory .state)) (lent k (b .queue)) ≡ false)
+Meets b (refusedStart z k s) =
+    (s ≡ startOf (lentMemory z (b .memory)) (lent k (b .queue))) × (eqb (startChecked (lentMemory z (b .memory)) (lent k (b .queue))) 0 ≡ false)
 
--- the board after it
+-- the board after it: each slice of its own that was lent holds what the call left there
 abbrev pub left : Board → Made → Board
 left b (fed p r c) = board (c .left) (b .queue)
 left b (arrived x s) = board (b .memory) (s .queue)
 left b (handed s) = board (b .memory) (s .queue)
-left b (astray m p r c) = b
+left b (refusedFeed z p r c) = board (returnedMemory z (b .memory) (c .left)) (b .queue)
+left b (refusedArrive t k x s) = board (b .memory) (returned k (b .queue) (s .queue))
+left b (refusedTake t k s) = board (b .memory) (returned k (b .queue) (s .queue))
+left b (refusedStart z k s) = board (returnedMemory z (b .memory) (s .left)) (returned k (b .queue) (s .queue))
 
 -- each finds what the last one left
 unfoldable pub MeetsAll : Board → List Made → Type 0
@@ -43,18 +85,26 @@ unfoldable pub leftAll : Board → List Made → Board
 leftAll b [] = b
 leftAll b (c ∷ l) = leftAll (left b c) l
 
+-- ---- their history
+
 -- the bytes that the answers count as consumed, and those sent
 abbrev pub consumed : Made → List ℕ
 consumed (fed p r c) = take (c .consumed) p
 consumed (arrived x s) = []
 consumed (handed s) = []
-consumed (astray m p r c) = take (c .consumed) p
+consumed (refusedFeed z p r c) = take (c .consumed) p
+consumed (refusedArrive t k x s) = []
+consumed (refusedTake t k s) = []
+consumed (refusedStart z k s) = []
 
 abbrev pub sent : Made → List ℕ
 sent (fed p r c) = take (c .replied) (c .replies)
 sent (arrived x s) = []
 sent (handed s) = []
-sent (astray m p r c) = take (c .replied) (c .replies)
+sent (refusedFeed z p r c) = take (c .replied) (c .replies)
+sent (refusedArrive t k x s) = []
+sent (refusedTake t k s) = []
+sent (refusedStart z k s) = []
 
 unfoldable pub allConsumed : List Made → List ℕ
 allConsumed [] = []
@@ -64,20 +114,26 @@ unfoldable pub allSent : List Made → List ℕ
 allSent [] = []
 allSent (c ∷ l) = sent c ++ allSent l
 
--- the same list as calls of the definitions
+-- the same list as calls of the definitions, those refused with 1 to 4 left out
 unfoldable pub callsOf : List Made → List Call
 callsOf [] = []
 callsOf (fed p r c ∷ l) = feeds p (length r) ∷ callsOf l
 callsOf (arrived x s ∷ l) = arrives x ∷ callsOf l
 callsOf (handed s ∷ l) = takes ∷ callsOf l
-callsOf (astray m p r c ∷ l) = callsOf l
+callsOf (refusedFeed z p r c ∷ l) = callsOf l
+callsOf (refusedArrive t k x s ∷ l) = callsOf l
+callsOf (refusedTake t k s ∷ l) = callsOf l
+callsOf (refusedStart z k s ∷ l) = callsOf l
 
 -- bytes dropped: arrivals that answered 7
 abbrev pub dropped : Made → ℕ
 dropped (fed p r c) = 0
 dropped (arrived x s) = cond (eqb (s .answer) 7) 1 0
 dropped (handed s) = 0
-dropped (astray m p r c) = 0
+dropped (refusedFeed z p r c) = 0
+dropped (refusedArrive t k x s) = cond (eqb (s .answer) 7) 1 0
+dropped (refusedTake t k s) = 0
+dropped (refusedStart z k s) = 0
 
 unfoldable pub allDropped : List Made → ℕ
 allDropped [] = 0

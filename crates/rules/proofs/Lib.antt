@@ -1,7 +1,9 @@
 pub mod Examples
+pub mod Footprints
 pub mod Refusals
 pub mod Streams
 pub mod Replies
+pub mod Pieces
 pub mod Obeying
 pub mod ByCommand
 pub mod ByByte

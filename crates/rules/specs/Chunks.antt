@@ -1,7 +1,7 @@
 -- A stream cut into pieces, each handed in with reply room of its own.
 -- Assumes nothing.
 use mathlib.Core.List.{List, [], _∷_, _++_}
-use Prim.Native.Nat.{ℕ, _+_, _-_, _≤_}
+use Prim.Native.Nat.{ℕ, _-_, _<_, _≤_}
 use lib.ListN.{length, take}
 use Rattle.rules.specs.World.{World}
 use Rattle.rules.specs.Step.{step, replies}
@@ -35,6 +35,12 @@ joined (p ∷ ps) = p .bytes ++ joined ps
 unfoldable pub Enough : World → ℕ → List ℕ → Type 0
 Enough w room [] = Unit {0}
 Enough w room (b ∷ l) = (2 ≤ room) × Enough (step w b) (room - length (replies w b)) l
+
+-- a piece is consumed up to byte n: two reply bytes were free before each byte of it, and where a byte is left fewer than two are
+pub record GoesTo (w : World) (room : ℕ) (p : List ℕ) (n : ℕ) : Type 0 where
+  pub enough : Enough w room (take n p)
+  pub most : n ≤ length p
+  pub stops : n < length p → room - length (said w (take n p)) < 2
 
 unfoldable pub EnoughAll : World → List Chunk → Type 0
 EnoughAll w [] = Unit {0}

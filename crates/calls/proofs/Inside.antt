@@ -1,0 +1,80 @@
+-- Every bar's rectangle lies on the framebuffer, after every byte: one that is set up, since the state is sound; one that is not, since it is blank.
+-- Assumes nothing.
+use mathlib.Core.Path.{_≡_, refl, sym, subst}
+use mathlib.Core.Bool.{Bool, true, false, cond, _&&_}
+use mathlib.Core.List.{List, [], _∷_, _++_}
+use Prim.Native.Nat.{ℕ, zero, suc, _/_, _<_, _≤_}
+use native.Mathlib.Omega.{arith}
+use lib.Dec.{eqb, leb, ltb}
+use lib.ListN.{length, take}
+use borrow.Author.Tests.{eqb-true, ltb-true}
+use Rattle.pixels.specs.Framebuffer.{width, On, height}
+use Rattle.pixels.proofs.Tests.{and-one, and-two}
+use Rattle.pixels.proofs.Touch.{rectangle-true}
+use Rattle.bar_graph.specs.declared.Bar.{Bar}
+use Rattle.bar_graph.specs.Bars.{lengthOf, rectangleOf}
+use Rattle.bar_ledger.specs.Ledger.{along}
+use Rattle.state.specs.declared.BarSlot.{BarSlot}
+use Rattle.state.specs.State.{barAt}
+use Rattle.state.specs.Soundness.{soundCorners, soundSetUp, allZero, soundBar}
+use Rattle.rules.specs.World.{World, panel}
+use Rattle.rules.specs.Step.{step}
+use Rattle.rules.specs.Calls.{run}
+use Rattle.rules.proofs.Good.{parts}
+use Rattle.rules.proofs.GoodLists.{bar-sound}
+use Rattle.calls.specs.Memory.{Kept}
+use Rattle.calls.specs.Feed.{feedOf}
+use Rattle.calls.specs.List.{Board, board, Call, feeds, arrives, takes, afterCall, consumedAll}
+use Rattle.calls.specs.Bytes.{AllBytes, BytesInAll}
+use Rattle.calls.proofs.Lists.{take-bytes}
+
+-- the last corner is on a framebuffer of h rows
+record Cornered (h : ℕ) (b : Bar) : Type 0 where
+  x2 : b .x2 < width
+  y2 : b .y2 < h
+
+set-up-cornered : (h : ℕ) (b : Bar) → soundSetUp h b ≡ true → Cornered h b
+unfolding soundSetUp
+set-up-cornered h b e =
+    let c : soundCorners h (b .x1) (b .y1) (b .x2) (b .y2) ≡ true = and-one (soundCorners h (b .x1) (b .y1) (b .x2) (b .y2)) _ (and-one _ (ltb (b .kind) 4) e) in
+    let d = and-one (ltb (b .x1) (b .x2) && ltb (b .y1) (b .y2) && ltb (b .x2) width) (ltb (b .y2) h) c in
+    record { x2 = ltb-true (b .x2) 240 (and-two (ltb (b .x1) (b .x2) && ltb (b .y1) (b .y2)) (ltb (b .x2) width) d); y2 = ltb-true (b .y2) h (and-two (ltb (b .x1) (b .x2) && ltb (b .y1) (b .y2) && ltb (b .x2) width) (ltb (b .y2) h) c) }
+
+blank-cornered : (h : ℕ) (b : Bar) → 0 < h → allZero (b .kind ∷ b .x1 ∷ b .y1 ∷ b .x2 ∷ b .y2 ∷ b .value ∷ []) ≡ true → Cornered h b
+unfolding allZero
+blank-cornered h b p e =
+    let a = and-two (eqb (b .y1) 0) _ (and-two (eqb (b .x1) 0) _ (and-two (eqb (b .kind) 0) _ e)) in
+    record { x2 = omega (arith, eqb-true (b .x2) 0 (and-one _ _ a)); y2 = omega (arith, p, eqb-true (b .y2) 0 (and-one (eqb (b .y2) 0) _ (and-two (eqb (b .x2) 0) _ a))) }
+
+cornered : (h : ℕ) (s : BarSlot) (on : Bool) → s .on ≡ on → 0 < h → soundBar h s ≡ true → Cornered h (s .bar)
+unfolding soundBar
+cornered h s true o p e = set-up-cornered h (s .bar) (rw o at e)
+cornered h s false o p e = blank-cornered h (s .bar) p (rw o at e)
+
+on-it : (n : ℕ) (b : Bar) (x y : ℕ) → Cornered (n / 30) b → rectangleOf b x y ≡ true → On n x y
+on-it n b x y c e = let r = rectangle-true (b .x1) (b .y1) (b .x2) (b .y2) x y e in (omega (arith, c .x2, r), omega (arith, c .x2, c .y2, r))
+
+pub bars-inside : (w : World) → Kept w → (i x y : ℕ) → rectangleOf (barAt (panel w) i .bar) x y ≡ true → On (length (w .framebuffer)) x y
+bars-inside w k i x y e =
+    let p = parts (k .good) .panel-good .bars .sound in
+    on-it (length (w .framebuffer)) (barAt (panel w) i .bar) x y
+    (cornered (length (w .framebuffer) / 30) (barAt (panel w) i) (barAt (panel w) i .on) refl (omega (arith, k .framebuffer)) (bar-sound _ (panel w .bars) i p)) e
+
+-- ---- along a list of calls
+
+append-bytes : (l m : List ℕ) → AllBytes l → AllBytes m → AllBytes (l ++ m)
+append-bytes [] m h k = k
+append-bytes (b ∷ l) m h k = (h .0, append-bytes l m (h .1) k)
+
+pub consumed-bytes : (b : Board) (cs : List Call) → BytesInAll cs → AllBytes (consumedAll b cs)
+unfolding consumedAll
+consumed-bytes b [] h = tt
+consumed-bytes b (feeds p room ∷ cs) h =
+    append-bytes (take (feedOf (b .memory) p room .consumed) p) _ (take-bytes (feedOf (b .memory) p room .consumed) p (h .0)) (consumed-bytes _ cs (h .1))
+consumed-bytes b (arrives x ∷ cs) h = consumed-bytes _ cs (h .1)
+consumed-bytes b (takes ∷ cs) h = consumed-bytes _ cs (h .1)
+
+pub run-along : (w : World) (l : List ℕ) → along step w l ≡ run w l
+unfolding along run
+run-along w [] = refl
+run-along w (b ∷ l) = run-along (step w b) l
