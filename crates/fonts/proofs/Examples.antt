@@ -5,7 +5,7 @@ use mathlib.Core.Bool.{true, false}
 use mathlib.Core.List.{List, [], _∷_}
 use Prim.Native.Nat.{ℕ}
 use lib.ListN.{take}
-use Rattle.fonts.specs.Checks.{between}
+use Rattle.fonts.specs.Checks.{between, checkOf, checkNumber}
 use Rattle.fonts.specs.Bitmaps.{packedBytes, isBitmap}
 use Rattle.fonts.specs.Fonts.{offsetAt, widthAt, entryOf, isEntry, areEntries, isFont}
 
@@ -26,6 +26,11 @@ small-high = refl
 pub small-cut : isFont 5 (take 14 small) ≡ false
 unfolding isFont areEntries isEntry offsetAt widthAt packedBytes between
 small-cut = refl
+
+-- the numbers of the two answers: none, and 23
+pub small-numbers : (checkNumber (checkOf (isFont 5 small)) ≡ 0) × (checkNumber (checkOf (isFont 4 small)) ≡ 23)
+unfolding isFont areEntries isEntry offsetAt widthAt packedBytes between
+small-numbers = (refl, refl)
 
 pub small-entry : entryOf small 1 ≡ record { offset = 12; width = 4 }
 unfolding entryOf offsetAt widthAt

@@ -15,7 +15,7 @@ use Rattle.bar_graph.specs.Bars.{lengthOf, heldTo}
 use Rattle.state.specs.State.{startState, barAt}
 use Rattle.state.specs.Commands.{commandOf}
 use Rattle.rules.specs.World.{World, world, port, panel, refused}
-use Rattle.rules.specs.Text.{place, nowhere, textOf, wrapped, fitted}
+use Rattle.rules.specs.Text.{place, nowhere, placeNumber, textOf, wrapped, fitted}
 use Rattle.rules.specs.Bars.{setUpBar, writeBar, setUpStrip, shiftStrip}
 use Rattle.rules.specs.Files.{beginUpload, uploadData, deleteFile, purge}
 use Rattle.rules.specs.Pictures.{inlineData}
@@ -72,6 +72,11 @@ pub places : (wrapped (near 235 0 64) 5 7 ≡ place 235 0 0) × (wrapped (near 2
     × (fitted 64 5 7 (wrapped (near 236 58 64) 5 7) ≡ nowhere)
 unfolding wrapped fitted
 places = (refl, refl, refl, refl)
+
+-- the number of no place
+pub place-numbers : (placeNumber (wrapped (near 235 0 64) 5 7) ≡ 0) × (placeNumber (fitted 64 5 7 (wrapped (near 236 58 64) 5 7)) ≡ 29)
+unfolding wrapped fitted
+place-numbers = (refl, refl)
 
 -- A VALUE IS HELD TO THE LENGTH: columns for a horizontal bar, rows for a vertical one
 abbrev pub barOn : ℕ → World
