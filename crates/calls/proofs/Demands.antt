@@ -71,6 +71,7 @@ record-sound : (w : World) → Kept w → soundRecord 64 (encodeOf (w .state)) �
 unfolding height
 record-sound w k =
     encoded-sound 64 (w .state) (state-fits w (k .good)) (subst (λ (n : ℕ). soundState (n / 30) (w .state) ≡ true) (k .framebuffer) (k .good .sound))
+    (k .good .thresholds) (k .good .canonical)
 
 both-false : (a b : Bool) → a ≡ false → b ≡ false → (a || b) ≡ false
 both-false true b e f = e
@@ -154,10 +155,12 @@ unfolding height
 checked-kept m b e =
     let c = checks m e in
     let f = decoded-fits (m .state) (b .state) in
-    let p = passed 64 (m .state) (c .state) .sound in
+    let p = passed 64 (m .state) (c .state) in
     record {
       good = record {
-        sound = subst (λ (n : ℕ). soundState (n / 30) (decodeOf (m .state)) ≡ true) (sym (c .framebuffer)) p;
+        sound = subst (λ (n : ℕ). soundState (n / 30) (decodeOf (m .state)) ≡ true) (sym (c .framebuffer)) (p .sound);
+        thresholds = p .thresholds;
+        canonical = p .canonical;
         port-fits = port-fits (decodeOf (m .state)) f;
         panel-fits = panel-fits (decodeOf (m .state)) f;
         store = record { bytes = b .store; valid = c .valid };

@@ -1,14 +1,13 @@
 -- The phases, each way by itself.
 -- Assumes nothing.
 use mathlib.Core.Path.{_≡_, _∙_, refl, sym, ap, subst}
-use mathlib.Core.Bool.{Bool, true, false, not, _&&_, _||_}
+use mathlib.Core.Bool.{Bool, true, false, not}
 use mathlib.Core.List.{List, []}
 use native.Mathlib.Omega.{arith}
 use Prim.Native.Nat.{ℕ, _+_, _<_, _≤_}
 use lib.Dec.{eqb, ltb, lit≤}
 use lib.ListN.{set}
 use borrow.Author.Tests.{eq-eqb, ne-eqb, lt-ltb, le-ltb, ltb-true}
-use Rattle.file_laws.proofs.Written.{and-both}
 use Rattle.directory.specs.Directory.{entries, hasFile}
 use Rattle.state.specs.declared.Command.{Command}
 use Rattle.state.specs.declared.Command.the-variants.{Unknown, Clear, Home, SetPoint, SetPlace, WrapOn, WrapOff, ScrollOn, ScrollOff, ChooseFont, SetMetrics, SetColour, DrawPixel, DrawLine, ContinueLine, DrawFrame, FillRectangle, SetUpBar, WriteBar, SetUpStrip, ShiftStrip, ShowBitmap, DrawInline, UploadFont, UploadBitmap, DeleteFile, Purge, FlowOn, FlowOff, SetContrast, BacklightOn, BacklightOff, SetSerial}
@@ -17,7 +16,7 @@ use Rattle.state.specs.declared.Phase.the-variants.{Idle, Prefix, Gathering, In
 use Rattle.state.specs.declared.State.{State}
 use Rattle.state.specs.State.{noArgs}
 use Rattle.state.specs.Commands.{commandOf, argumentsOf}
-use Rattle.state.specs.Soundness.{soundGathering, soundInline, soundUpload, soundPhase}
+use Rattle.state.specs.Soundness.{soundGathering, soundInline, soundPhase}
 use Rattle.rules.specs.World.{World, world, port, done, quietly, refused, Outcome as Ruled}
 use Rattle.rules.specs.Text.{character}
 use Rattle.rules.specs.Pictures.{inlineData}
@@ -210,11 +209,6 @@ pub sound-inline : (f : Phase) (x1 y1 x2 y2 d : ℕ) → f ≡ Inline x1 y1 x2 y
 unfolding soundPhase
 sound-inline f x1 y1 x2 y2 d e h = sound-in f (Inline x1 y1 x2 y2 d) e h
 
-uploading : (k z i : ℕ) (w : Bool) (b : ℕ) → soundUpload k z i w b ≡ true → i < z
-unfolding soundUpload
-uploading k z i w b h =
-    ltb-true i z (and-both (eqb k 1 || eqb k 2) (ltb i z) (and-both ((eqb k 1 || eqb k 2) && ltb i z) (w || eqb b 0) h .0) .1)
-
 pub sound-upload : (f : Phase) (k n z i : ℕ) (w : Bool) (b : ℕ) → f ≡ Upload k n z i w b → soundPhase f ≡ true → i < z
 unfolding soundPhase
-sound-upload f k n z i w b e h = uploading k z i w b (sound-in f (Upload k n z i w b) e h)
+sound-upload f k n z i w b e h = ltb-true i z (sound-in f (Upload k n z i w b) e h)

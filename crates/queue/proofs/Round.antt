@@ -13,7 +13,7 @@ use lib.Seq.{getD-append-add, ext-getD}
 use borrow.Author.Tests.{ltb-true, leb-true, eqb-true, lt-ltb, le-leb, eq-eqb}
 use Rattle.queue.specs.declared.Queue.{Queue}
 use Rattle.queue.specs.Queue.{Sound}
-use Rattle.queue.specs.Record.{at, bit, bytesFrom, decodeOf, encodeOf, soundRecord, Fits, Bytes}
+use Rattle.queue.specs.Record.{at, bit, bytesFrom, decodeOf, encodeOf, soundRing, canonicalMark, soundRecord, Fits, Bytes}
 use Rattle.queue.proofs.Ways.{byte-ring, byte-place, byte-held, byte-mark, byte-lost, byte-lost-high}
 use Rattle.queue.proofs.Tables.{length-bytesFrom, at-bytesFrom, next-byte, length-encode}
 
@@ -60,13 +60,13 @@ both false b e = absurd (false≢true e)
 pub passed : (r : List ℕ) → soundRecord r ≡ true → Passed r
 unfolding soundRecord
 passed r e =
-    let a = both (eqb (length r) 85 && ltb (at r 80) 80 && leb (at r 81) 80) (leb (at r 82) 1) e in
-    let b = both (eqb (length r) 85 && ltb (at r 80) 80) (leb (at r 81) 80) (a .0) in
-    let c = both (eqb (length r) 85) (ltb (at r 80) 80) (b .0) in
+    let a = both (eqb (length r) 85 && soundRing r) (canonicalMark r) e in
+    let b = both (eqb (length r) 85) (soundRing r) (a .0) in
+    let c = both (ltb (at r 80) 80) (leb (at r 81) 80) (b .1) in
     record {
-      long = eqb-true (length r) 85 (c .0);
-      place-below = ltb-true (at r 80) 80 (c .1);
-      held-most = leb-true (at r 81) 80 (b .1);
+      long = eqb-true (length r) 85 (b .0);
+      place-below = ltb-true (at r 80) 80 (c .0);
+      held-most = leb-true (at r 81) 80 (c .1);
       mark-bit = leb-true (at r 82) 1 (a .1);
     }
 

@@ -1,4 +1,4 @@
--- The record of a queue, 85 bytes: which byte stands where, reading and writing it, and which records are sound.
+-- The record of a queue, 85 bytes: which byte stands where, reading and writing it, and which records are accepted.
 -- Assumes nothing.
 use mathlib.Core.Path.{_≡_}
 use mathlib.Core.Bool.{Bool, cond, _&&_}
@@ -20,7 +20,7 @@ placeAt = 80
 abbrev pub heldAt : ℕ
 heldAt = 81
 
--- 1: up, 0: down; other bytes are not sound
+-- 1: up, 0: down
 abbrev pub markAt : ℕ
 markAt = 82
 
@@ -52,8 +52,17 @@ encodeOf q = q .ring ++ (q .place ∷ q .held ∷ bit (q .mark) ∷ q .lost % 25
 unfoldable pub encodedIn : Queue → List ℕ → List ℕ
 encodedIn q g = take (length g) (encodeOf q) ++ drop recordSize g
 
+-- the rules' list: the place is below 80 and the held count at most 80
+abbrev pub soundRing : List ℕ → Bool
+soundRing r = ltb (at r placeAt) 80 && leb (at r heldAt) 80
+
+-- the layout's and not the list's: a mark is 0 or 1, so that one queue has one record
+abbrev pub canonicalMark : List ℕ → Bool
+canonicalMark r = leb (at r markAt) 1
+
+-- what is not refused with 3: of the right length, sound, and canonical
 unfoldable pub soundRecord : List ℕ → Bool
-soundRecord r = eqb (length r) recordSize && ltb (at r placeAt) 80 && leb (at r heldAt) 80 && leb (at r markAt) 1
+soundRecord r = eqb (length r) recordSize && soundRing r && canonicalMark r
 
 -- what the types of the program say of a queue
 pub record Fits (q : Queue) : Type 0 where

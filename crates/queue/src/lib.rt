@@ -228,7 +228,7 @@ fn byte_at(r: &[u8], k: usize) -> u8
     if k < r.len() { r[k] } else { 0 }
 }
 
-// Whether a record is that of a sound queue.
+// Whether a record is that of a sound queue, its mark written as 0 or 1.
 pub fn sound(r: &[u8]) -> bool
     ensures { λ b. ⌜ b ≡ soundRecord (now (r .entry)) ⌝ }
 {

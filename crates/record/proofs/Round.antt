@@ -1,4 +1,4 @@
--- A record and its state are one thing, both ways, and a record is sound exactly when it is that of a sound state.
+-- A record and its state are one thing, both ways, and a record is accepted exactly when it is that of a sound, canonical state.
 -- Assumes nothing.
 use mathlib.Core.Path.{_≡_, refl, sym, ap, _∙_}
 use mathlib.Core.Logic.{_↔_}
@@ -15,8 +15,9 @@ use Rattle.state.specs.declared.Refusals.{Refusals}
 use Rattle.state.specs.declared.Backlight.{Backlight}
 use Rattle.state.specs.declared.State.{State}
 use Rattle.state.specs.State.{noBar, noStrip, startState}
-use Rattle.state.specs.Soundness.{soundState}
-use Rattle.state.proofs.Start.{start-sound}
+use Rattle.state.specs.Soundness.{soundState, thresholdsFit}
+use Rattle.state.specs.Canonical.{canonicalState}
+use Rattle.state.proofs.Start.{start-sound, start-thresholds, start-canonical}
 use Rattle.record.specs.Layout.{flowAt, flowFullAt, flowEmptyAt, refusalsAt, lastRefusalAt, contrastAt, backlightAt, minutesAt}
 use Rattle.record.specs.Reading.{pairAt, flagAt, portOf, panelOf, decodeOf}
 use Rattle.record.specs.Writing.{encodeOf}
@@ -67,18 +68,26 @@ decode-encode s f =
 pub record Passed (h : ℕ) (r : List ℕ) : Type 0 where
   pub long : length r ≡ 201
   pub sound : soundState h (decodeOf r) ≡ true
+  pub thresholds : thresholdsFit (decodeOf r .port .flow) ≡ true
+  pub canonical : canonicalState (decodeOf r) ≡ true
   pub again : encodeOf (decodeOf r) ≡ r
 
 pub passed : (h : ℕ) (r : List ℕ) → soundRecord h r ≡ true → Passed h r
 unfolding soundRecord
 passed h r e =
-    let a = both (eqb (length r) 201 && soundState h (decodeOf r)) (sameBytes (encodeOf (decodeOf r)) r) e in
-    let b = both (eqb (length r) 201) (soundState h (decodeOf r)) (a .0) in
-    record { long = eqb-true (length r) 201 (b .0); sound = b .1; again = same-equal (encodeOf (decodeOf r)) r (a .1) }
+    let a = eqb (length r) 201 in
+    let b = soundState h (decodeOf r) in
+    let c = thresholdsFit (decodeOf r .port .flow) in
+    let d = canonicalState (decodeOf r) in
+    let p = both (a && b && c && d) (sameBytes (encodeOf (decodeOf r)) r) e in
+    let q = both (a && b && c) d (p .0) in
+    let t = both (a && b) c (q .0) in
+    let u = both a b (t .0) in
+    record { long = eqb-true (length r) 201 (u .0); sound = u .1; thresholds = t .1; canonical = q .1; again = same-equal (encodeOf (decodeOf r)) r (p .1) }
 
 pub passes : (h : ℕ) (r : List ℕ) → Passed h r → soundRecord h r ≡ true
 unfolding soundRecord
-passes h r p = rw (eq-eqb (length r) 201 (p .long), p .sound, p .again) (same-refl r)
+passes h r p = rw (eq-eqb (length r) 201 (p .long), p .sound, p .thresholds, p .canonical, p .again) (same-refl r)
 
 -- WRITING WHAT WAS READ
 pub encode-decode : (h : ℕ) (r : List ℕ) → soundRecord h r ≡ true → encodeOf (decodeOf r) ≡ r
@@ -86,16 +95,24 @@ encode-decode h r e = passed h r e .again
 
 -- ---- sound both ways
 
-pub encoded-sound : (h : ℕ) (s : State) → Fits s → soundState h s ≡ true → soundRecord h (encodeOf s) ≡ true
-encoded-sound h s f e =
+pub encoded-sound : (h : ℕ) (s : State) → Fits s → soundState h s ≡ true → thresholdsFit (s .port .flow) ≡ true → canonicalState s ≡ true
+    → soundRecord h (encodeOf s) ≡ true
+encoded-sound h s f e t c =
     let d = decode-encode s f in
-    passes h (encodeOf s) (record { long = length-encode s f; sound = ap (soundState h) d ∙ e; again = ap encodeOf d })
+    passes h (encodeOf s) (record {
+      long = length-encode s f;
+      sound = ap (soundState h) d ∙ e;
+      thresholds = ap (λ (x : State). thresholdsFit (x .port .flow)) d ∙ t;
+      canonical = ap canonicalState d ∙ c;
+      again = ap encodeOf d;
+    })
 
--- A RECORD OF BYTES IS SOUND EXACTLY WHEN IT IS THAT OF A SOUND STATE
-pub sound-exactly : (h : ℕ) (r : List ℕ) → Bytes r → (soundRecord h r ≡ true) ↔ ((s : State) × Fits s × (soundState h s ≡ true) × (encodeOf s ≡ r))
+-- A RECORD OF BYTES IS ACCEPTED EXACTLY WHEN IT IS THAT OF A SOUND STATE, with thresholds below 80 and canonical
+pub sound-exactly : (h : ℕ) (r : List ℕ) → Bytes r
+    → (soundRecord h r ≡ true) ↔ ((s : State) × Fits s × (soundState h s ≡ true) × (thresholdsFit (s .port .flow) ≡ true) × (canonicalState s ≡ true) × (encodeOf s ≡ r))
 sound-exactly h r b = (
-  λ e. (decodeOf r, decoded-fits r b, passed h r e .sound, encode-decode h r e),
-  λ w. rw (← w .3) (encoded-sound h (w .0) (w .1) (w .2)),
+  λ e. let p = passed h r e in (decodeOf r, decoded-fits r b, p .sound, p .thresholds, p .canonical, p .again),
+  λ w. rw (← w .5) (encoded-sound h (w .0) (w .1) (w .2) (w .3) (w .4)),
 )
 
 -- ---- the start, and what a board shows
@@ -133,7 +150,7 @@ start-fits h l =
     }
 
 pub start-record : (h : ℕ) → h < 256 → soundRecord h (encodeOf (startState h)) ≡ true
-start-record h l = encoded-sound h (startState h) (start-fits h l) (start-sound h)
+start-record h l = encoded-sound h (startState h) (start-fits h l) (start-sound h) (start-thresholds h) (start-canonical h)
 
 pub record Shown (s : State) (r : List ℕ) : Type 0 where
   pub contrast : at r contrastAt ≡ s .panel .contrast

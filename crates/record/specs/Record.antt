@@ -1,4 +1,4 @@
--- The record of a state, 201 bytes: what is written of it, and which records are sound.
+-- The record of a state, 201 bytes: what is written of it, and which records are accepted.
 -- Assumes nothing.
 use mathlib.Core.Bool.{Bool, true, false, _&&_}
 use mathlib.Core.List.{List, [], _∷_, _++_}
@@ -6,7 +6,8 @@ use Prim.Native.Nat.{ℕ}
 use lib.Dec.{eqb}
 use lib.ListN.{length, take, drop}
 use Rattle.state.specs.declared.State.{State}
-use Rattle.state.specs.Soundness.{soundState}
+use Rattle.state.specs.Soundness.{soundState, thresholdsFit}
+use Rattle.state.specs.Canonical.{canonicalState}
 use Rattle.record.specs.Layout.{recordSize}
 use Rattle.record.specs.Reading.{decodeOf}
 use Rattle.record.specs.Writing.{encodeOf}
@@ -21,6 +22,12 @@ sameBytes [] (b ∷ m) = false
 sameBytes (a ∷ l) [] = false
 sameBytes (a ∷ l) (b ∷ m) = eqb a b && sameBytes l m
 
--- of a sound state, and as that state is written
+-- what is not refused with 3: of the right length, its state sound, with flow thresholds below 80; and what the layout adds: its state canonical, and written as
+-- that state is written (tags and flags have one byte for each meaning)
 unfoldable pub soundRecord : ℕ → List ℕ → Bool
-soundRecord h r = eqb (length r) recordSize && soundState h (decodeOf r) && sameBytes (encodeOf (decodeOf r)) r
+soundRecord h r =
+    eqb (length r) recordSize
+    && soundState h (decodeOf r)
+    && thresholdsFit (decodeOf r .port .flow)
+    && canonicalState (decodeOf r)
+    && sameBytes (encodeOf (decodeOf r)) r

@@ -7,7 +7,7 @@ use reading::flow_of;
 use reading::panel_of;
 use reading::port_of;
 use state::State;
-use state::is_sound;
+use state::is_well_formed;
 use writing::encode_panel;
 use writing::encode_port;
 ghost use mathlib.Core.Path.{_≡_};
@@ -119,7 +119,7 @@ fn is_same(a: [u8; RECORD], r: &[u8]) -> bool
     same
 }
 
-// Whether it is the record of a sound state, on a framebuffer of `height` rows.
+// Whether it is the record of a sound state, on a framebuffer of `height` rows, with thresholds below 80 and as the layout has it.
 pub fn is_record(r: &[u8], height: u8) -> bool
     ensures { λ b. ⌜ b ≡ soundRecord height (now (r .entry)) ⌝ }
 {
@@ -127,7 +127,7 @@ pub fn is_record(r: &[u8], height: u8) -> bool
         return false;
     }
     let s = decode(r);
-    if !is_sound(s, height) {
+    if !is_well_formed(s, height) {
         return false;
     }
     let mut again = [0; RECORD];

@@ -4,7 +4,9 @@ use mathlib.Core.Path.{_≡_, refl, ap}
 use mathlib.Core.Bool.{Bool, true, false}
 use mathlib.Core.List.{List, []}
 use Prim.Native.Nat.{ℕ, _+_, _/_, _≤_, _<_}
-use lib.ListN.{length, getD, drop}
+use native.Mathlib.Omega.{arith}
+use lib.Dec.{leb}
+use lib.ListN.{length, getD}
 use borrow.Author.Tests.{leb-true, ltb-true, le-leb, lt-ltb}
 use Rattle.pixels.specs.Framebuffer.{height}
 use Rattle.pixels.proofs.Tests.{by-test}
@@ -21,7 +23,8 @@ use Rattle.state.specs.declared.Strip.{Strip}
 use Rattle.state.specs.declared.Serial.{Serial}
 use Rattle.state.specs.declared.Panel.{Panel}
 use Rattle.state.specs.State.{noBar, noStrip, withPhase, withDrawing, withFlow, withRefusals, withBars, withStrips}
-use Rattle.state.specs.Soundness.{soundPhase, gathered, allZero, soundPort, soundBars, soundStrips, soundSerial, soundPanel, soundState}
+use Rattle.state.specs.Soundness.{every, soundPhase, soundText, soundPort, soundBar, soundStrip, soundPanel, soundState, thresholdsFit}
+use Rattle.state.specs.Canonical.{canonicalPhase, canonicalArguments, canonicalPort, canonicalBar, canonicalStrip, canonicalSerial, canonicalPanel, canonicalState}
 use Rattle.rules.specs.World.{World, rows, port, panel, withFramebuffer, withStore, withPort, withPanel, putText, Outcome, done, refused, refuseIf}
 use Rattle.rules.specs.Sound.{Bytes, PhaseFits, ArgsFit, TextFits, DrawingFits, FlowFits, RefusalsFit, PortFits, BarFits, StripFits, SerialFits, PanelFits, Welcome, Good}
 
@@ -29,7 +32,8 @@ use Rattle.rules.specs.Sound.{Bytes, PhaseFits, ArgsFit, TextFits, Drawi
 
 pub record PhaseGood (p : Phase) (a s : List ℕ) : Type 0 where
   pub sound : soundPhase p ≡ true
-  pub zeros : allZero (drop (gathered p) a) ≡ true
+  pub canonical : canonicalPhase p ≡ true
+  pub zeros : canonicalArguments p a ≡ true
   pub fits : PhaseFits p
   pub args : ArgsFit a
   pub welcome : Welcome p s
@@ -51,17 +55,19 @@ pub record PortGood (p : Port) (s : List ℕ) : Type 0 where
   pub refusals : RefusalsFit (p .refusals)
 
 pub record BarsGood (h : ℕ) (l : List BarSlot) : Type 0 where
-  pub sound : soundBars h l ≡ true
+  pub sound : every (soundBar h) l ≡ true
+  pub canonical : every canonicalBar l ≡ true
   pub long : length l ≡ 16
   pub fits : (i : ℕ) → BarFits (getD l i noBar)
 
 pub record StripsGood (h : ℕ) (l : List Strip) : Type 0 where
-  pub sound : soundStrips h l ≡ true
+  pub sound : every (soundStrip h) l ≡ true
+  pub canonical : every canonicalStrip l ≡ true
   pub long : length l ≡ 8
   pub fits : (i : ℕ) → StripFits (getD l i noStrip)
 
 pub record SerialGood (s : Serial) : Type 0 where
-  pub sound : soundSerial s ≡ true
+  pub canonical : canonicalSerial s ≡ true
   pub fits : SerialFits s
 
 pub record PanelGood (h : ℕ) (q : Panel) : Type 0 where
@@ -91,40 +97,42 @@ pub record Parts (n m : ℕ) (w : World) : Type 0 where
 
 -- ---- from a good world to its parts
 
-port-parts : (p : Port) (s : List ℕ) → soundPort p ≡ true → PortFits p → Welcome (p .phase) s → PortGood p s
-unfolding soundPort
-port-parts p s h f u =
+port-parts : (p : Port) (s : List ℕ) → soundPort p ≡ true → thresholdsFit (p .flow) ≡ true → canonicalPort p ≡ true → PortFits p → Welcome (p .phase) s → PortGood p s
+unfolding soundPort soundText canonicalPort
+port-parts p s h t k f u =
     let a = and-both _ _ h in
-    let b = and-both _ _ (a .0) in
-    let c = and-both _ _ (b .0) in
+    let b = and-both (leb (p .text .x) 495) (leb (p .text .y) 255) (a .1) in
+    let c = and-both _ _ k in
     record {
-      phase = record { sound = c .0; zeros = c .1; fits = f .phase; args = f .args; welcome = u };
-      text = record { near = leb-true (p .text .x) 495 (b .1); fits = f .text };
+      phase = record { sound = a .0; canonical = c .0; zeros = c .1; fits = f .phase; args = f .args; welcome = u };
+      text = record { near = leb-true (p .text .x) 495 (b .0); fits = f .text };
       drawing = f .drawing;
-      flow = record { sum = ltb-true (p .flow .full + p .flow .empty) 80 (a .1); fits = f .flow };
+      flow = record { sum = ltb-true (p .flow .full + p .flow .empty) 80 t; fits = f .flow };
       refusals = f .refusals;
     }
 
-panel-parts : (h : ℕ) (q : Panel) → soundPanel h q ≡ true → PanelFits q → PanelGood h q
-unfolding soundPanel
-panel-parts h q e f =
+panel-parts : (h : ℕ) (q : Panel) → soundPanel h q ≡ true → canonicalPanel q ≡ true → PanelFits q → PanelGood h q
+unfolding soundPanel canonicalPanel
+panel-parts h q e k f =
     let a = and-both _ _ e in
-    let b = and-both _ _ (a .0) in
+    let b = and-both _ _ k in
+    let c = and-both _ _ (b .0) in
     record {
-      bars = record { sound = b .0; long = f .sixteen; fits = f .bars };
-      strips = record { sound = b .1; long = f .eight; fits = f .strips };
-      serial = record { sound = a .1; fits = f .serial };
+      bars = record { sound = a .0; canonical = c .0; long = f .sixteen; fits = f .bars };
+      strips = record { sound = a .1; canonical = c .1; long = f .eight; fits = f .strips };
+      serial = record { canonical = b .1; fits = f .serial };
       contrast = f .contrast;
       minutes = f .minutes;
     }
 
 pub parts : {w : World} → Good w → Parts (length (w .framebuffer)) (length (w .store)) w
-unfolding soundState height
+unfolding soundState canonicalState height
 parts {w} g =
     let s = and-both _ _ (g .sound) in
+    let k = and-both _ _ (g .canonical) in
     record {
-      port-good = port-parts (port w) (w .store) (s .0) (g .port-fits) (g .upload);
-      panel-good = panel-parts (rows w) (panel w) (s .1) (g .panel-fits);
+      port-good = port-parts (port w) (w .store) (s .0) (g .thresholds) (k .0) (g .port-fits) (g .upload);
+      panel-good = panel-parts (rows w) (panel w) (s .1) (k .1) (g .panel-fits);
       store = record { bytes = g .store .bytes; valid = g .store .valid; long = refl };
       framebuffer = record { bytes = g .framebuffer .bytes; long = refl };
       low = g .framebuffer .low;
@@ -133,25 +141,34 @@ parts {w} g =
 -- ---- and from the parts back
 
 port-sound : {p : Port} {s : List ℕ} → PortGood p s → soundPort p ≡ true
-unfolding soundPort
-port-sound {p} g =
-    rw (g .phase .sound, g .phase .zeros, le-leb (p .text .x) 495 (g .text .near), lt-ltb (p .flow .full + p .flow .empty) 80 (g .flow .sum))
+unfolding soundPort soundText
+port-sound {p} g = rw (g .phase .sound, le-leb (p .text .x) 495 (g .text .near), le-leb (p .text .y) 255 (omega (arith, g .text .fits .y)))
+
+port-canonical : {p : Port} {s : List ℕ} → PortGood p s → canonicalPort p ≡ true
+unfolding canonicalPort
+port-canonical g = rw (g .phase .canonical) (g .phase .zeros)
 
 panel-sound : {h : ℕ} {q : Panel} → PanelGood h q → soundPanel h q ≡ true
 unfolding soundPanel
-panel-sound g = rw (g .bars .sound, g .strips .sound, g .serial .sound)
+panel-sound g = rw (g .bars .sound) (g .strips .sound)
+
+panel-canonical : {h : ℕ} {q : Panel} → PanelGood h q → canonicalPanel q ≡ true
+unfolding canonicalPanel
+panel-canonical g = rw (g .bars .canonical, g .strips .canonical) (g .serial .canonical)
 
 pub rows-are : {n m : ℕ} {w : World} → Parts n m w → rows w ≡ n / 30
 unfolding height
 rows-are p = ap (λ (k : ℕ). k / 30) (p .framebuffer .long)
 
 pub good : {n m : ℕ} {w : World} → Parts n m w → Good w
-unfolding soundState
+unfolding soundState canonicalState
 good {n} {m} {w} p =
     let q = p .port-good in
     let r = p .panel-good in
     record {
       sound = rw (rows-are p, port-sound q) (panel-sound r);
+      thresholds = lt-ltb (port w .flow .full + port w .flow .empty) 80 (q .flow .sum);
+      canonical = rw (port-canonical q) (panel-canonical r);
       port-fits = record { phase = q .phase .fits; args = q .phase .args; text = q .text .fits; drawing = q .drawing; flow = q .flow .fits; refusals = q .refusals };
       panel-fits = record { sixteen = r .bars .long; bars = r .bars .fits; eight = r .strips .long; strips = r .strips .fits; serial = r .serial .fits; contrast = r .contrast; minutes = r .minutes };
       store = record { bytes = p .store .bytes; valid = p .store .valid };

@@ -16,7 +16,8 @@ use Rattle.state.specs.declared.Command.the-variants.{Unknown, Clear, Home, Set
 use Rattle.state.specs.declared.Phase.{Phase}
 use Rattle.state.specs.declared.Phase.the-variants.{Idle, Prefix, Gathering, Inline, Upload}
 use Rattle.state.specs.State.{noBar, noStrip, startState, startPanel}
-use Rattle.state.specs.Soundness.{soundPhase, allZero, soundBar, soundStrip, soundBars, soundStrips, soundSerial, soundSetUp, soundInline, soundUpload}
+use Rattle.state.specs.Soundness.{every, soundPhase, soundBar, soundStrip}
+use Rattle.state.specs.Canonical.{canonicalPhase, canonicalBar, canonicalStrip, canonicalSerial}
 use Rattle.state.specs.Commands.{commandOf, argumentsOf}
 use Rattle.rules.specs.World.{World, world, port, Outcome, done, refused, arg}
 use Rattle.rules.specs.Step.{obey, outside, code, noBitmap, argument, alone, byPhase, outcome, refuse, after, step}
@@ -112,24 +113,25 @@ module _ {n m : ℕ} {w : World} (p : Parts n m w) where
   -- ---- bytes
 
   alone-good : (b : ℕ) → Leaves n m (alone w b)
-  unfolding alone soundPhase soundInline soundUpload
-  alone-good b = by-test (Leaves n m) (eqb b 254) _ _ (λ _. put-phase p (settled Prefix (w .store) refl refl tt tt)) (λ _. character-good p b)
+  unfolding alone soundPhase canonicalPhase
+  alone-good b = by-test (Leaves n m) (eqb b 254) _ _ (λ _. put-phase p (settled Prefix (w .store) refl refl refl tt tt)) (λ _. character-good p b)
 
   code-good : (b : ℕ) → b < 256 → Leaves n m (code w b)
-  unfolding code soundPhase soundInline soundUpload
+  unfolding code soundPhase canonicalPhase
   code-good b h =
       let k = argumentsOf (commandOf b) in
       by-test (Leaves n m) (eqb k 0) _ _ (λ _. commands (commandOf b) [] bytes-none)
-      (λ e. put-phase p (settled (Gathering b 0) (w .store) (lt-ltb 0 k (omega (arith, eqb-false k 0 e))) refl (h, omega arith) tt))
+      (λ e. put-phase p (settled (Gathering b 0) (w .store) (lt-ltb 0 k (omega (arith, eqb-false k 0 e))) refl refl (h, omega arith) tt))
 
   argument-good : (c g b : ℕ) → PhaseGood (Gathering c g) (port w .args) (w .store) → b < 256 → Leaves n m (argument w c g b)
-  unfolding argument soundPhase soundInline soundUpload
+  unfolding argument soundPhase canonicalPhase
   argument-good c g b q h =
       let k = argumentsOf (commandOf c) in
       passes n m (noBitmap w c g b) 22 _ (omega arith) (λ _.
       by-test (Leaves n m) (ltb (g + 1) k) _ _
       (λ e. put-phase p (record {
         sound = e;
+        canonical = refl;
         zeros = zeros-set (port w .args) g b (q .zeros);
         fits = (q .fits .0, omega (arith, ltb-true (g + 1) k e, six-most (commandOf c)));
         args = args-set (port w .args) g b (q .args) h;
@@ -175,12 +177,12 @@ store-length w b g h = parts-step (parts g) b h .store .long
 -- ---- the start
 
 nothing-set-up : (h : ℕ) → PanelGood h startPanel
-unfolding soundBars soundBar soundStrips soundStrip soundSerial allZero soundSetUp
+unfolding every soundBar soundStrip canonicalBar canonicalStrip canonicalSerial
 nothing-set-up h =
     record {
-      bars = record { sound = refl; long = refl; fits = λ i. no-bars 16 i };
-      strips = record { sound = refl; long = refl; fits = λ i. no-strips 8 i };
-      serial = record { sound = refl; fits = omega arith };
+      bars = record { sound = refl; canonical = refl; long = refl; fits = λ i. no-bars 16 i };
+      strips = record { sound = refl; canonical = refl; long = refl; fits = λ i. no-strips 8 i };
+      serial = record { canonical = refl; fits = omega arith };
       contrast = omega arith;
       minutes = omega arith;
     }

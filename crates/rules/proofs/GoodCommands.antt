@@ -18,8 +18,10 @@ use Rattle.directory.specs.Directory.{findOf}
 use Rattle.fonts.specs.Bitmaps.{isBitmap}
 use Rattle.file_laws.proofs.Written.{and-both}
 use Rattle.state.specs.declared.BarSlot.{BarSlot}
-use Rattle.state.specs.State.{barOf, barSlot, barAt, strip, stripAt}
-use Rattle.state.specs.Soundness.{soundBar, soundStrip, soundSerial, soundCorners, soundSetUp}
+use Rattle.state.specs.State.{barOf, barSlot, noBar, barAt, strip, stripAt}
+use Rattle.state.specs.Soundness.{soundBar, soundStrip, soundCorners, soundSetUp}
+use Rattle.state.specs.Canonical.{canonicalBar, canonicalStrip, canonicalSerial}
+use Rattle.state.proofs.Every.{every-at}
 use Rattle.rules.specs.World.{World, rows, panel}
 use Rattle.rules.specs.Drawing.{ordered, clear, setColour, drawPixel, drawLine, drawFrame, fillRectangle}
 use Rattle.rules.specs.Bars.{inBounds, apart, setUpBar, writeBar, setUpStrip, shiftStrip}
@@ -27,7 +29,7 @@ use Rattle.rules.specs.Pictures.{bitmapIn, bitmapAt, showBitmap}
 use Rattle.rules.specs.Settings.{flowOn, flowOff, setContrast, backlightOn, backlightOff, setSerial}
 use Rattle.rules.specs.Sound.{BarFits}
 use Rattle.rules.proofs.Good.{FramebufferGood, Parts, rows-are, put-panel, put-framebuffer, put-text, put-drawing, put-flow, put-bars, put-strips, Leaves, passes}
-use Rattle.rules.proofs.GoodLists.{bar-sound, bars-good, strips-good}
+use Rattle.rules.proofs.GoodLists.{bars-good, strips-good}
 use Rattle.rules.proofs.GoodText.{painted-good, home-good}
 
 -- ---- bars and strips, from the tests of a set-up
@@ -64,6 +66,15 @@ inside {n} {m} {w} p x1 y1 x2 y2 h k =
 set-up-sound : (h k x1 y1 x2 y2 : ℕ) → soundCorners h x1 y1 x2 y2 ≡ true → k < 4 → soundBar h (barSlot true (barOf k x1 y1 x2 y2 0)) ≡ true
 unfolding soundBar soundSetUp
 set-up-sound h k x1 y1 x2 y2 g l = rw (g, le-leb 0 (lengthOf (barOf k x1 y1 x2 y2 0)) (omega arith), lt-ltb k 4 l)
+
+-- what is set up is canonical
+set-up-canonical : (b : Bar) → canonicalBar (barSlot true b) ≡ true
+unfolding canonicalBar
+set-up-canonical b = refl
+
+none-sound : (h : ℕ) → soundBar h noBar ≡ true
+unfolding soundBar
+none-sound h = refl
 
 held-fits : (b : Bar) (v : ℕ) → leb (min v (lengthOf b)) (lengthOf b) ≡ true
 held-fits b v = le-leb (min v (lengthOf b)) (lengthOf b) (omega arith)
@@ -129,7 +140,7 @@ module _ {n m : ℕ} {w : World} (p : Parts n m w) where
       passes n m (not (inBounds w x1 y1 x2 y2)) 17 _ (omega arith) (λ ho. passes n m (not (apart x1 y1 x2 y2)) 18 _ (omega arith) (λ ha.
       let q = inside p x1 y1 x2 y2 ho ha in
       let l = leb-false 4 k hk in
-      put-bars p (bars-good (p .panel-good .bars) i (barSlot true (barOf k x1 y1 x2 y2 0)) (set-up-sound (n / 30) k x1 y1 x2 y2 (q .framebuffer) l) (omega (arith, q)))))))
+      put-bars p (bars-good (p .panel-good .bars) i (barSlot true (barOf k x1 y1 x2 y2 0)) (set-up-sound (n / 30) k x1 y1 x2 y2 (q .framebuffer) l) (set-up-canonical _) (omega (arith, q)))))))
 
   pub write-good : (i v : ℕ) → v < 256 → Leaves n m (writeBar w i v)
   unfolding writeBar
@@ -138,14 +149,15 @@ module _ {n m : ℕ} {w : World} (p : Parts n m w) where
       let b = p .panel-good .bars in
       let s = barAt (panel w) i in
       put-bars (put-framebuffer p (written-framebuffer (p .framebuffer) (s .bar) v)) (bars-good b i (barSlot true (writtenBar (s .bar) v))
-      (written-sound (n / 30) s v (not-false (s .on) ho) (bar-sound (n / 30) (panel w .bars) i (b .sound))) (written-fits s v h (b .fits i)))))
+      (written-sound (n / 30) s v (not-false (s .on) ho) (every-at (soundBar (n / 30)) (panel w .bars) i noBar (none-sound (n / 30)) (b .sound)))
+      (set-up-canonical _) (written-fits s v h (b .fits i)))))
 
   pub strip-good : (i x1 y1 x2 y2 : ℕ) → Leaves n m (setUpStrip w i x1 y1 x2 y2)
-  unfolding setUpStrip soundStrip
+  unfolding setUpStrip soundStrip canonicalStrip
   strip-good i x1 y1 x2 y2 =
       passes n m (leb 8 i) 19 _ (omega arith) (λ _. passes n m (not (inBounds w x1 y1 x2 y2)) 17 _ (omega arith) (λ ho. passes n m (not (apart x1 y1 x2 y2)) 18 _ (omega arith) (λ ha.
       let q = inside p x1 y1 x2 y2 ho ha in
-      put-strips p (strips-good (p .panel-good .strips) i (strip true x1 y1 x2 y2) (q .framebuffer) (omega (arith, q))))))
+      put-strips p (strips-good (p .panel-good .strips) i (strip true x1 y1 x2 y2) (q .framebuffer) refl (omega (arith, q))))))
 
   pub shift-good : (b : ℕ) → Leaves n m (shiftStrip w b)
   unfolding shiftStrip
@@ -185,8 +197,8 @@ module _ {n m : ℕ} {w : World} (p : Parts n m w) where
   backlight-off-good = let q = p .panel-good in put-panel p (record { bars = q .bars; strips = q .strips; serial = q .serial; contrast = q .contrast; minutes = q .minutes })
 
   pub serial-good : (a b : ℕ) → a < 256 → b < 256 → Leaves n m (setSerial w a b)
-  unfolding setSerial soundSerial
+  unfolding setSerial canonicalSerial
   serial-good a b h k =
       let q = p .panel-good in
       by-test (Leaves n m) (panel w .serial .on) _ _ (λ _. p)
-      (λ _. put-panel p (record { bars = q .bars; strips = q .strips; serial = record { sound = refl; fits = record { a = h; b = k } }; contrast = q .contrast; minutes = q .minutes }))
+      (λ _. put-panel p (record { bars = q .bars; strips = q .strips; serial = record { canonical = refl; fits = record { a = h; b = k } }; contrast = q .contrast; minutes = q .minutes }))

@@ -1,19 +1,18 @@
--- Lists of bytes, of bars and of strips: what an element put anew keeps, and what an element of a good list is.
+-- Lists of bytes, of bars and of strips: what an element put anew keeps.
 -- Assumes nothing.
 use mathlib.Core.Path.{_≡_, refl, _∙_}
 use mathlib.Core.Bool.{true}
 use mathlib.Core.List.{List, [], _∷_, _++_}
 use Prim.Native.Nat.{ℕ, zero, suc, _+_, _<_}
 use native.Mathlib.Omega.{arith}
-use lib.Dec.{eqb}
 use lib.ListN.{getD, set, take, drop, replicate, length-set}
 use lib.Seq.{paste, drop-set-lt, drop-drop}
-use Rattle.pixels.proofs.Tests.{and-two, and-yes}
-use Rattle.file_laws.proofs.Written.{and-both}
 use Rattle.state.specs.declared.BarSlot.{BarSlot}
 use Rattle.state.specs.declared.Strip.{Strip}
 use Rattle.state.specs.State.{noArgs, noBar, noStrip}
-use Rattle.state.specs.Soundness.{allZero, soundBar, soundStrip, soundBars, soundStrips, soundSetUp}
+use Rattle.state.specs.Soundness.{soundBar, soundStrip}
+use Rattle.state.specs.Canonical.{isZero, allZero, canonicalBar, canonicalStrip}
+use Rattle.state.proofs.Every.{every-set, every-tail}
 use Rattle.rules.specs.Sound.{Bytes, ArgsFit, BarFits, StripFits}
 use Rattle.rules.proofs.Good.{BarsGood, StripsGood}
 
@@ -67,39 +66,26 @@ no-args = record { six = refl; bytes = bytes-zeros 6 }
 pub args-set : (a : List ℕ) (g b : ℕ) → ArgsFit a → b < 256 → ArgsFit (set a g b)
 args-set a g b f h = record { six = length-set a g b ∙ f .six; bytes = bytes-set a g b (f .bytes) h }
 
-zero-tail : (l : List ℕ) → allZero l ≡ true → allZero (drop 1 l) ≡ true
-unfolding allZero
-zero-tail [] h = refl
-zero-tail (a ∷ l) h = and-two (eqb a 0) (allZero l) h
-
 -- one more argument: those behind it are 0
 pub zeros-set : (a : List ℕ) (g b : ℕ) → allZero (drop g a) ≡ true → allZero (drop (g + 1) (set a g b)) ≡ true
-zeros-set a g b h = rw (drop-set-lt (g + 1) a g b (omega arith), ← drop-drop 1 g a) (zero-tail (drop g a) h)
+zeros-set a g b h = rw (drop-set-lt (g + 1) a g b (omega arith), ← drop-drop 1 g a) (every-tail isZero (drop g a) h)
 
--- ---- bars
+-- ---- bars and strips
 
-bars-set : (h : ℕ) (l : List BarSlot) (i : ℕ) (s : BarSlot) → soundBars h l ≡ true → soundBar h s ≡ true → soundBars h (set l i s) ≡ true
-unfolding soundBars
-bars-set h [] i s p q = refl
-bars-set h (x ∷ l) zero s p q = and-yes (soundBar h s) (soundBars h l) q (and-two (soundBar h x) (soundBars h l) p)
-bars-set h (x ∷ l) (suc i) s p q = let r = and-both (soundBar h x) (soundBars h l) p in and-yes (soundBar h x) _ (r .0) (bars-set h l i s (r .1) q)
+pub bars-good : {h : ℕ} {l : List BarSlot} → BarsGood h l → (i : ℕ) (s : BarSlot) → soundBar h s ≡ true → canonicalBar s ≡ true → BarFits s → BarsGood h (set l i s)
+bars-good {h} {l} g i s p k f =
+    record {
+      sound = every-set (soundBar h) l i s (g .sound) p;
+      canonical = every-set canonicalBar l i s (g .canonical) k;
+      long = length-set l i s ∙ g .long;
+      fits = set-all BarFits l i s noBar f (g .fits);
+    }
 
-pub bar-sound : (h : ℕ) (l : List BarSlot) (i : ℕ) → soundBars h l ≡ true → soundBar h (getD l i noBar) ≡ true
-unfolding soundBars soundBar allZero soundSetUp
-bar-sound h [] i p = refl
-bar-sound h (x ∷ l) zero p = and-both (soundBar h x) (soundBars h l) p .0
-bar-sound h (x ∷ l) (suc i) p = bar-sound h l i (and-two (soundBar h x) (soundBars h l) p)
-
-pub bars-good : {h : ℕ} {l : List BarSlot} → BarsGood h l → (i : ℕ) (s : BarSlot) → soundBar h s ≡ true → BarFits s → BarsGood h (set l i s)
-bars-good {h} {l} g i s p f = record { sound = bars-set h l i s (g .sound) p; long = length-set l i s ∙ g .long; fits = set-all BarFits l i s noBar f (g .fits) }
-
--- ---- strips
-
-strips-set : (h : ℕ) (l : List Strip) (i : ℕ) (s : Strip) → soundStrips h l ≡ true → soundStrip h s ≡ true → soundStrips h (set l i s) ≡ true
-unfolding soundStrips
-strips-set h [] i s p q = refl
-strips-set h (x ∷ l) zero s p q = and-yes (soundStrip h s) (soundStrips h l) q (and-two (soundStrip h x) (soundStrips h l) p)
-strips-set h (x ∷ l) (suc i) s p q = let r = and-both (soundStrip h x) (soundStrips h l) p in and-yes (soundStrip h x) _ (r .0) (strips-set h l i s (r .1) q)
-
-pub strips-good : {h : ℕ} {l : List Strip} → StripsGood h l → (i : ℕ) (s : Strip) → soundStrip h s ≡ true → StripFits s → StripsGood h (set l i s)
-strips-good {h} {l} g i s p f = record { sound = strips-set h l i s (g .sound) p; long = length-set l i s ∙ g .long; fits = set-all StripFits l i s noStrip f (g .fits) }
+pub strips-good : {h : ℕ} {l : List Strip} → StripsGood h l → (i : ℕ) (s : Strip) → soundStrip h s ≡ true → canonicalStrip s ≡ true → StripFits s → StripsGood h (set l i s)
+strips-good {h} {l} g i s p k f =
+    record {
+      sound = every-set (soundStrip h) l i s (g .sound) p;
+      canonical = every-set canonicalStrip l i s (g .canonical) k;
+      long = length-set l i s ∙ g .long;
+      fits = set-all StripFits l i s noStrip f (g .fits);
+    }

@@ -18,7 +18,8 @@ use Rattle.file_laws.proofs.Meaning.{entries-stored}
 use Rattle.state.specs.declared.Phase.{Phase}
 use Rattle.state.specs.declared.Phase.the-variants.{Idle, Inline, Upload}
 use Rattle.state.specs.State.{noArgs, startText}
-use Rattle.state.specs.Soundness.{inlineBytes, soundPhase, gathered, allZero, soundInline, soundUpload}
+use Rattle.state.specs.Soundness.{every, inlineBytes, soundPhase, soundInline}
+use Rattle.state.specs.Canonical.{gathered, canonicalUpload, canonicalPhase}
 use Rattle.rules.specs.World.{World, rows, port}
 use Rattle.rules.specs.Drawing.{ordered}
 use Rattle.rules.specs.Pictures.{beginInline, inlineData}
@@ -30,13 +31,13 @@ use Rattle.rules.proofs.GoodStore.{isKind, room, stored-good, appended-
 use Rattle.rules.proofs.GoodText.{painted-good, font-good}
 
 -- a phase with no arguments
-pub settled : (f : Phase) (s : List ℕ) → soundPhase f ≡ true → gathered f ≡ 0 → PhaseFits f → Welcome f s → PhaseGood f noArgs s
-unfolding allZero
-settled f s h e k u = record { sound = h; zeros = rw e; fits = k; args = no-args; welcome = u }
+pub settled : (f : Phase) (s : List ℕ) → soundPhase f ≡ true → canonicalPhase f ≡ true → gathered f ≡ 0 → PhaseFits f → Welcome f s → PhaseGood f noArgs s
+unfolding every
+settled f s h c e k u = record { sound = h; canonical = c; zeros = rw e; fits = k; args = no-args; welcome = u }
 
 pub idle-good : (s : List ℕ) → PhaseGood Idle noArgs s
-unfolding soundPhase soundInline soundUpload
-idle-good s = settled Idle s refl refl tt tt
+unfolding soundPhase canonicalPhase
+idle-good s = settled Idle s refl refl refl tt tt
 
 -- ---- data in line: the bytes of a rectangle are some, and few
 
@@ -65,50 +66,50 @@ start-text h k = omega arith
 
 module _ {n m : ℕ} {w : World} (p : Parts n m w) where
   pub corners-good : (x1 y1 x2 y2 : ℕ) → x1 < 256 → y1 < 256 → x2 < 256 → y2 < 256 → Leaves n m (beginInline w x1 y1 x2 y2)
-  unfolding beginInline soundPhase soundInline soundUpload
+  unfolding beginInline soundPhase soundInline canonicalPhase
   corners-good x1 y1 x2 y2 a b c d =
       passes n m (not (ordered x1 y1 x2 y2)) 18 _ (omega arith) (λ h.
-      put-phase p (settled (Inline x1 y1 x2 y2 0) (w .store) (rw (not-false (ordered x1 y1 x2 y2) h, lt-ltb 0 (inlineBytes x1 y1 x2 y2) (inline-some x1 y1 x2 y2))) refl (a, b, c, d, omega arith) tt))
+      put-phase p (settled (Inline x1 y1 x2 y2 0) (w .store) (rw (not-false (ordered x1 y1 x2 y2) h, lt-ltb 0 (inlineBytes x1 y1 x2 y2) (inline-some x1 y1 x2 y2))) refl refl (a, b, c, d, omega arith) tt))
 
   pub inline-good : (x1 y1 x2 y2 d b : ℕ) → PhaseGood (Inline x1 y1 x2 y2 d) (port w .args) (w .store) → Leaves n m (inlineData w x1 y1 x2 y2 d b)
-  unfolding inlineData soundPhase soundInline soundUpload
+  unfolding inlineData soundPhase soundInline canonicalPhase
   inline-good x1 y1 x2 y2 d b q =
       let f = q .fits in
       let o = and-both (ordered x1 y1 x2 y2) (ltb d (inlineBytes x1 y1 x2 y2)) (q .sound) .0 in
       put-phase (put-framebuffer p (painted-good (p .framebuffer) _))
       (by-test (λ (f : Phase). PhaseGood f noArgs (w .store)) (ltb (d + 1) (inlineBytes x1 y1 x2 y2)) _ _
-      (λ h. settled (Inline x1 y1 x2 y2 (d + 1)) (w .store) (rw (o, h)) refl
+      (λ h. settled (Inline x1 y1 x2 y2 (d + 1)) (w .store) (rw (o, h)) refl refl
       (f .0, f .1, f .2, f .3, omega (arith, ltb-true (d + 1) (inlineBytes x1 y1 x2 y2) h, inline-few x1 y1 x2 y2 (f .2) (f .3))) tt)
       (λ _. idle-good (w .store)))
 
   pub upload-good : (k i z : ℕ) → isKind k ≡ true → k < 256 → i < 256 → z < 65536 → Leaves n m (beginUpload w k i z)
-  unfolding beginUpload soundPhase soundInline soundUpload
+  unfolding beginUpload soundPhase canonicalPhase canonicalUpload
   upload-good k i z e hk hi hz =
       by-test (Leaves n m) (inUse (w .store) k i) _ _ (λ _. omega arith) (λ u.
       by-test (Leaves n m) (lacksSpace (w .store) z) _ _ (λ _. omega arith) (λ v.
-      put-phase p (settled (Upload k i z 0 false 0) (w .store) (rw (e, lt-ltb 0 z (omega (arith, eqb-false z 0 (room (w .store) z v .some))))) refl
+      put-phase p (settled (Upload k i z 0 false 0) (w .store) (lt-ltb 0 z (omega (arith, eqb-false z 0 (room (w .store) z v .some)))) (rw e) refl
       (hk, hi, hz, omega arith, omega arith) (u, v))))
 
   confirmed-good : (k i z s c : ℕ) → PhaseGood (Upload k i z s true c) (port w .args) (w .store) → Parts n m (confirmed w k i z s c)
-  unfolding soundPhase soundInline soundUpload
+  unfolding soundPhase canonicalPhase canonicalUpload
   confirmed-good k i z s c q =
       let f = q .fits in
       let u = q .welcome in
-      let e = and-both (isKind k) (ltb s z) (and-both (isKind k && ltb s z) true (q .sound) .0) .0 in
+      let e = and-both (isKind k) true (q .canonical) .0 in
       let t = stored-good (p .store) s c (f .4) in
       let x = still-fresh (p .store) k i s c (u .0) in
       let y = still-room (p .store) z s c (u .1) in
       by-test (Parts n m) (ltb (s + 1) z) _ _
-      (λ h. put-both p t (settled (Upload k i z (s + 1) false 0) (storedByte (w .store) s c) (rw (e, h)) refl
+      (λ h. put-both p t (settled (Upload k i z (s + 1) false 0) (storedByte (w .store) s c) h (rw e) refl
       (f .0, f .1, f .2, omega (arith, ltb-true (s + 1) z h, f .2), omega arith) (x, y)))
       (λ _. put-both p (appended-good t k i z e (f .0) (f .1) (f .2) x y) (idle-good _))
 
   pub data-good : (k i z s : ℕ) (v : Bool) (c b : ℕ) → PhaseGood (Upload k i z s v c) (port w .args) (w .store) → b < 256 → Leaves n m (uploadData w k i z s v c b)
-  unfolding uploadData soundPhase soundInline soundUpload
+  unfolding uploadData soundPhase canonicalPhase canonicalUpload
   data-good k i z s false c b q h =
       let f = q .fits in
-      let e = and-both (isKind k && ltb s z) (eqb c 0) (q .sound) .0 in
-      put-phase p (settled (Upload k i z s true b) (w .store) (rw e) refl (f .0, f .1, f .2, f .3, h) (q .welcome))
+      let e = and-both (isKind k) (eqb c 0) (q .canonical) .0 in
+      put-phase p (settled (Upload k i z s true b) (w .store) (q .sound) (rw e) refl (f .0, f .1, f .2, f .3, h) (q .welcome))
   data-good k i z s true c b q h = passes n m (not (eqb b 1)) 26 _ (omega arith) (λ _. confirmed-good k i z s c q)
 
   -- outside a command

@@ -22,7 +22,8 @@ use Rattle.state.specs.declared.Command.the-variants.{Unknown, Clear, Home, Set
 use Rattle.state.specs.declared.Phase.{Phase}
 use Rattle.state.specs.declared.Phase.the-variants.{Idle, Prefix, Gathering, Inline, Upload}
 use Rattle.state.specs.State.{barAt, stripAt}
-use Rattle.state.specs.Soundness.{soundPhase, soundInline, soundUpload}
+use Rattle.state.specs.Soundness.{soundPhase}
+use Rattle.state.specs.Canonical.{canonicalUpload, canonicalPhase}
 use Rattle.state.specs.Commands.{commandOf, argumentsOf}
 use Rattle.rules.specs.World.{World, rows, port, panel, Outcome, done, refused, refuseIf, arg}
 use Rattle.rules.specs.Fonts.{Opened, opened, shut, openFont}
@@ -135,9 +136,9 @@ module _ {m : ℕ} (w : World) (good-store : StoreGood m (w .store)) (k n : ℕ)
   purge-stays a b h = rw h tt
 
   confirmed-stays : (j i z s c : ℕ) → PhaseGood (Upload j i z s true c) (port w .args) (w .store) → Stays (w .store) (confirmed w j i z s c .store) k n
-  unfolding soundPhase soundInline soundUpload
+  unfolding canonicalPhase canonicalUpload
   confirmed-stays j i z s c q =
-      let e = and-both (isKind j) (ltb s z) (and-both (isKind j && ltb s z) true (q .sound) .0) .0 in
+      let e = and-both (isKind j) true (q .canonical) .0 in
       let f = q .fits in
       let t = stored-good good-store s c (f .4) in
       let a = stays-spared (spared-stored good-store s c) k n has in
@@ -203,7 +204,7 @@ module _ {n m : ℕ} {w : World} (p : Parts n m w) (k i b : ℕ) (has : hasFile 
   obeyed c a h = commands (outside w) (p .store) k i has c a h
 
   by-phase : (f : Phase) → port w .phase ≡ f → PhaseGood f (port w .args) (w .store) → Staying (w .store) k i (byPhase f w b)
-  unfolding byPhase alone code argument inlineData soundPhase soundInline soundUpload
+  unfolding byPhase alone code argument inlineData soundPhase
   by-phase Idle e q =
       by-test (Staying (w .store) k i) (eqb b 254) _ _ (λ _. same w (p .store) k i has) (λ _. character-stays w (p .store) k i has b)
   by-phase Prefix e q =

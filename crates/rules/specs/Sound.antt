@@ -1,4 +1,4 @@
--- When a world is good: its state is sound, every field fits its type, the store keeps its rules, and an upload under way may still be stored.
+-- When a world is good: its state is sound, with thresholds below 80 and as the record's layout has it, every field fits its type, the store keeps its rules, and an upload under way may still be stored.
 -- Assumes nothing.
 use mathlib.Core.Path.{_≡_}
 use mathlib.Core.Bool.{true, false}
@@ -18,7 +18,8 @@ use Rattle.state.specs.declared.Strip.{Strip}
 use Rattle.state.specs.declared.Serial.{Serial}
 use Rattle.state.specs.declared.Panel.{Panel}
 use Rattle.state.specs.State.{barAt, stripAt}
-use Rattle.state.specs.Soundness.{soundState}
+use Rattle.state.specs.Soundness.{soundState, thresholdsFit}
+use Rattle.state.specs.Canonical.{canonicalState}
 use Rattle.rules.specs.World.{World, rows, port, panel}
 use Rattle.rules.specs.Files.{inUse, lacksSpace}
 
@@ -121,6 +122,8 @@ Welcome (Upload kind number size stored waiting byte) s = (inUse s kind number �
 -- GOOD
 pub record Good (w : World) : Type 0 where
   pub sound : soundState (rows w) (w .state) ≡ true
+  pub thresholds : thresholdsFit (port w .flow) ≡ true
+  pub canonical : canonicalState (w .state) ≡ true
   pub port-fits : PortFits (port w)
   pub panel-fits : PanelFits (panel w)
   pub store : StoreKeeps (w .store)

@@ -1,4 +1,4 @@
 pub mod Commands
-pub mod Tests
+pub mod Every
 pub mod Parts
 pub mod Start

@@ -1,3 +1,4 @@
 pub mod Commands
 pub mod State
 pub mod Soundness
+pub mod Canonical

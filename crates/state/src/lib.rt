@@ -1,18 +1,21 @@
 // What the display remembers between bytes, by value: what belongs to one serial line (Port) and what belongs to the display (Panel).
+mod checks;
 mod initial;
-mod sound;
 
 use bar_graph::Bar;
+use checks::are_thresholds;
+use checks::both;
+pub use checks::inline_bytes;
+use checks::is_panel;
+use checks::is_port;
 pub use initial::start_state;
 pub use initial::start_text;
 use queue::Flow;
-use sound::both;
-pub use sound::inline_bytes;
-use sound::is_panel_sound;
-use sound::is_port_sound;
 ghost use mathlib.Core.Path.{_≡_};
+ghost use mathlib.Core.Bool.{_&&_};
 ghost use Rattle.state.specs.Commands.{commandOf, argumentsOf};
-ghost use Rattle.state.specs.Soundness.{soundState};
+ghost use Rattle.state.specs.Soundness.{soundState, thresholdsFit};
+ghost use Rattle.state.specs.Canonical.{canonicalState};
 
 pub enum Command {
     Unknown,
@@ -240,11 +243,13 @@ pub struct State {
     pub panel: Panel,
 }
 
-// Whether a state is sound, on a framebuffer of `height` rows.
-pub fn is_sound(s: State, height: u8) -> bool
-    ensures { λ r. ⌜ r ≡ soundState height s ⌝ }
+// Whether a state is sound, on a framebuffer of `height` rows, with thresholds below 80 and as the record's layout has it.
+pub fn is_well_formed(s: State, height: u8) -> bool
+    ensures { λ r. ⌜ r ≡ (soundState height s && thresholdsFit (s .port .flow) && canonicalState s) ⌝ }
 {
     let port = s.port;
     let panel = s.panel;
-    both(is_port_sound(port), is_panel_sound(panel, height))
+    let flow = port.flow;
+    let parts = both(is_port(port), is_panel(panel, height));
+    both(parts, are_thresholds(flow))
 }

@@ -11,11 +11,11 @@ returns c = record-size _ _ (search needs)
 decode-requires : tie.Need-decode-requires
 decode-requires c κs = search needs
 
-is-sound-requires : tie.Need-is-sound-requires
-is-sound-requires c κs = search needs
+is-well-formed-requires : tie.Need-is-well-formed-requires
+is-well-formed-requires c κs = search needs
 
 returns-2 : tie.Need-returns-2
-returns-2 c = record-unsound _ _ _ _ (search needs) (c .before .before .decode .ensures) (c .before .is-sound .ensures) (search needs)
+returns-2 c = record-unsound _ _ _ _ (search needs) (c .before .before .decode .ensures) (c .before .is-well-formed .ensures) (search needs)
 
 slice-aggregate-encode : tie.Need-slice-aggregate-encode
 slice-aggregate-encode c = search needs
@@ -27,7 +27,7 @@ is-same-requires : tie.Need-is-same-requires
 is-same-requires c κs = search needs
 
 returns-3 : tie.Need-returns-3
-returns-3 c = record-again _ _ _ _ (search needs) (c .before .before .before .before .before .before .decode .ensures) (c .before .before .before .before .before .is-sound .ensures) _ _ _ (search needs) (search needs) (c .before .before .encode .ensures) (c .is-same .ensures)
+returns-3 c = record-again _ _ _ _ (search needs) (c .before .before .before .before .before .before .decode .ensures) (c .before .before .before .before .before .is-well-formed .ensures) _ _ _ (search needs) (search needs) (c .before .before .encode .ensures) (c .is-same .ensures)
 
 pub is-record-spec : {M : Type 1} → statement M
 is-record-spec =
@@ -35,7 +35,7 @@ is-record-spec =
     (tie.spec
     returns
     decode-requires
-    is-sound-requires
+    is-well-formed-requires
     returns-2
     slice-aggregate-encode
     encode-requires
