@@ -6,7 +6,8 @@ use Prim.Native.Nat.{ℕ}
 use lib.ListN.{replicate}
 use Rattle.directory.specs.Directory.{lengthOf, stepAt, readFrom, entriesFrom, bytesIn, sizesIn, keepRules, zeros, zerosFrom, validOf}
 use Rattle.state.specs.State.{startState}
-use Rattle.state.specs.Soundness.{soundPhase, allZero, soundPort, soundBar, soundStrip, soundBars, soundStrips, soundSerial, soundPanel, soundState}
+use Rattle.state.specs.Soundness.{every, soundPhase, soundText, soundPort, soundBar, soundStrip, soundPanel, soundState}
+use Rattle.state.specs.Canonical.{canonicalPhase, canonicalPort, canonicalBar, canonicalStrip, canonicalSerial, canonicalPanel, canonicalState}
 use Rattle.record.specs.Reading.{manyOf, phaseOf, portOf, panelOf, decodeOf}
 use Rattle.record.specs.Writing.{manyBytes, phaseBytes, portBytes, panelBytes, encodeOf}
 use Rattle.record.specs.Record.{sameBytes, soundRecord}
@@ -44,7 +45,7 @@ unfolding startChecked validOf entriesFrom readFrom stepAt lengthOf bytesIn size
 start-answers = (refl, refl, refl)
 
 pub checked-answers : (checked (with-store (9 ∷ replicate 1023 0)) ≡ 4) × (checked (with-store (replicate 1024 0)) ≡ 0)
-unfolding checked soundRecord soundState soundPort soundPhase allZero soundPanel soundBars soundBar soundStrips soundStrip soundSerial sameBytes decodeOf portOf phaseOf panelOf manyOf encodeOf portBytes phaseBytes panelBytes manyBytes validOf entriesFrom readFrom stepAt lengthOf bytesIn sizesIn keepRules zeros zerosFrom
+unfolding checked soundRecord every soundState soundPort soundPhase soundText soundPanel soundBar soundStrip canonicalState canonicalPort canonicalPhase canonicalPanel canonicalBar canonicalStrip canonicalSerial sameBytes decodeOf portOf phaseOf panelOf manyOf encodeOf portBytes phaseBytes panelBytes manyBytes validOf entriesFrom readFrom stepAt lengthOf bytesIn sizesIn keepRules zeros zerosFrom
 checked-answers = (refl, refl)
 
 -- a byte needs two free reply bytes, whether it replies or not; those that a serial number took are free no longer
@@ -54,5 +55,5 @@ pub piece-answers : (feedOf (with-store (replicate 1024 0)) [] 0 .answer ≡ 0)
     × (feedOf (with-store (replicate 1024 0)) (254 ∷ 52 ∷ 7 ∷ 8 ∷ 254 ∷ []) 3 .answer ≡ 5)
     × (feedOf (with-store (replicate 1024 0)) (254 ∷ 52 ∷ 7 ∷ 8 ∷ 254 ∷ []) 3 .consumed ≡ 4)
     × (feedOf (with-store (replicate 1024 0)) (254 ∷ 52 ∷ 7 ∷ 8 ∷ 254 ∷ []) 3 .sent ≡ 7 ∷ 8 ∷ [])
-unfolding feedOf run said taken step replies after byPhase alone code argument obey commandOf setSerial checked soundRecord soundState soundPort soundPhase allZero soundPanel soundBars soundBar soundStrips soundStrip soundSerial sameBytes decodeOf portOf phaseOf panelOf manyOf encodeOf portBytes phaseBytes panelBytes manyBytes validOf entriesFrom readFrom stepAt lengthOf bytesIn sizesIn keepRules zeros zerosFrom
+unfolding feedOf run said taken step replies after byPhase alone code argument obey commandOf setSerial checked soundRecord every soundState soundPort soundPhase soundText soundPanel soundBar soundStrip canonicalState canonicalPort canonicalPhase canonicalPanel canonicalBar canonicalStrip canonicalSerial sameBytes decodeOf portOf phaseOf panelOf manyOf encodeOf portBytes phaseBytes panelBytes manyBytes validOf entriesFrom readFrom stepAt lengthOf bytesIn sizesIn keepRules zeros zerosFrom
 piece-answers = (refl, refl, refl, refl, refl, refl)

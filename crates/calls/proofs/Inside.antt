@@ -15,13 +15,14 @@ use Rattle.bar_graph.specs.declared.Bar.{Bar}
 use Rattle.bar_graph.specs.Bars.{lengthOf, rectangleOf}
 use Rattle.bar_ledger.specs.Ledger.{along}
 use Rattle.state.specs.declared.BarSlot.{BarSlot}
-use Rattle.state.specs.State.{barAt}
-use Rattle.state.specs.Soundness.{soundCorners, soundSetUp, allZero, soundBar}
+use Rattle.state.specs.State.{noBar, barAt}
+use Rattle.state.specs.Soundness.{every, soundCorners, soundSetUp, soundBar}
+use Rattle.state.specs.Canonical.{blank, canonicalBar}
+use Rattle.state.proofs.Every.{every-at}
 use Rattle.rules.specs.World.{World, panel}
 use Rattle.rules.specs.Step.{step}
 use Rattle.rules.specs.Calls.{run}
 use Rattle.rules.proofs.Good.{parts}
-use Rattle.rules.proofs.GoodLists.{bar-sound}
 use Rattle.calls.specs.Memory.{Kept}
 use Rattle.calls.specs.Feed.{feedOf}
 use Rattle.calls.specs.List.{Board, board, Call, feeds, arrives, takes, afterCall, consumedAll}
@@ -40,25 +41,28 @@ set-up-cornered h b e =
     let d = and-one (ltb (b .x1) (b .x2) && ltb (b .y1) (b .y2) && ltb (b .x2) width) (ltb (b .y2) h) c in
     record { x2 = ltb-true (b .x2) 240 (and-two (ltb (b .x1) (b .x2) && ltb (b .y1) (b .y2)) (ltb (b .x2) width) d); y2 = ltb-true (b .y2) h (and-two (ltb (b .x1) (b .x2) && ltb (b .y1) (b .y2) && ltb (b .x2) width) (ltb (b .y2) h) c) }
 
-blank-cornered : (h : ℕ) (b : Bar) → 0 < h → allZero (b .kind ∷ b .x1 ∷ b .y1 ∷ b .x2 ∷ b .y2 ∷ b .value ∷ []) ≡ true → Cornered h b
-unfolding allZero
+blank-cornered : (h : ℕ) (b : Bar) → 0 < h → blank b ≡ true → Cornered h b
+unfolding every
 blank-cornered h b p e =
     let a = and-two (eqb (b .y1) 0) _ (and-two (eqb (b .x1) 0) _ (and-two (eqb (b .kind) 0) _ e)) in
     record { x2 = omega (arith, eqb-true (b .x2) 0 (and-one _ _ a)); y2 = omega (arith, p, eqb-true (b .y2) 0 (and-one (eqb (b .y2) 0) _ (and-two (eqb (b .x2) 0) _ a))) }
 
-cornered : (h : ℕ) (s : BarSlot) (on : Bool) → s .on ≡ on → 0 < h → soundBar h s ≡ true → Cornered h (s .bar)
-unfolding soundBar
-cornered h s true o p e = set-up-cornered h (s .bar) (rw o at e)
-cornered h s false o p e = blank-cornered h (s .bar) p (rw o at e)
+cornered : (h : ℕ) (s : BarSlot) (on : Bool) → s .on ≡ on → 0 < h → soundBar h s ≡ true → canonicalBar s ≡ true → Cornered h (s .bar)
+unfolding soundBar canonicalBar
+cornered h s true o p e f = set-up-cornered h (s .bar) (rw o at e)
+cornered h s false o p e f = blank-cornered h (s .bar) p (rw o at f)
 
 on-it : (n : ℕ) (b : Bar) (x y : ℕ) → Cornered (n / 30) b → rectangleOf b x y ≡ true → On n x y
 on-it n b x y c e = let r = rectangle-true (b .x1) (b .y1) (b .x2) (b .y2) x y e in (omega (arith, c .x2, r), omega (arith, c .x2, c .y2, r))
 
 pub bars-inside : (w : World) → Kept w → (i x y : ℕ) → rectangleOf (barAt (panel w) i .bar) x y ≡ true → On (length (w .framebuffer)) x y
+unfolding soundBar canonicalBar every
 bars-inside w k i x y e =
-    let p = parts (k .good) .panel-good .bars .sound in
-    on-it (length (w .framebuffer)) (barAt (panel w) i .bar) x y
-    (cornered (length (w .framebuffer) / 30) (barAt (panel w) i) (barAt (panel w) i .on) refl (omega (arith, k .framebuffer)) (bar-sound _ (panel w .bars) i p)) e
+    let b = parts (k .good) .panel-good .bars in
+    let n = length (w .framebuffer) in
+    let s = every-at (soundBar (n / 30)) (panel w .bars) i noBar refl (b .sound) in
+    let c = every-at canonicalBar (panel w .bars) i noBar refl (b .canonical) in
+    on-it n (barAt (panel w) i .bar) x y (cornered (n / 30) (barAt (panel w) i) (barAt (panel w) i .on) refl (omega (arith, k .framebuffer)) s c) e
 
 -- ---- along a list of calls
 
