@@ -4,3 +4,4 @@ pub mod Stripes
 pub mod FullPictures
 pub mod Examples
 pub mod Ways
+pub mod Lent

@@ -1,6 +1,7 @@
-// Bars of a bar graph: a write paints between the old value and the new one.
+// Bars of a bar graph: a write paints between the old value and the new one, and is lent only the rows of its bar.
 use canvas::Colour;
 use canvas::least;
+use canvas::rows_between;
 use rectangle::fill_box;
 use rectangle::fill_rectangle;
 ghost use mathlib.Core.Path.{_≡_};
@@ -8,6 +9,7 @@ ghost use Prim.Native.Nat.{_<_, _-_, max};
 ghost use Rattle.pixels.specs.Framebuffer.{fill};
 ghost use Rattle.bar_graph.specs.Bars.{vertical, fromFar, lengthOf, heldTo, stripe, writeOf, writtenBar};
 ghost use Rattle.bar_graph.specs.Axis.{intervalOf};
+ghost use Rattle.bar_graph.specs.Raised.{raisedOf};
 
 // The side that a bar grows from.
 pub const FROM_BOTTOM: u8 = 0;
@@ -105,50 +107,84 @@ fn interval_of(far: bool, lo: u8, hi: u8, a: u8, e: u8) -> Interval
     }
 }
 
+// From one row to another, and 0 where that is not below.
+fn rise(lo: u8, hi: u8) -> u8
+    ensures { λ r. ⌜ r ≡ hi - lo ⌝ }
+{
+    if lo < hi { hi - lo } else { 0 }
+}
+
+// The bar as its own rows show it: its first row is row 0.
+fn raised(bar: Bar) -> Bar
+    ensures { λ r. ⌜ r ≡ raisedOf bar ⌝ }
+{
+    Bar {
+        kind: bar.kind,
+        x1: bar.x1,
+        y1: 0,
+        x2: bar.x2,
+        y2: rise(bar.y1, bar.y2),
+        value: bar.value,
+    }
+}
+
 // The rows or columns of a bar from depth a up to depth e, in the colour c.
-fn fill_stripe(framebuffer: &mut [u8], bar: Bar, a: u8, e: u8, c: Colour)
-    ensures { λ _. ⌜ now (framebuffer .exit) ≡ fill (stripe bar a e) (c .black) (now (framebuffer .entry)) ⌝ }
+fn fill_stripe(rows: &mut [u8], bar: Bar, a: u8, e: u8, c: Colour)
+    ensures { λ _. ⌜ now (rows .exit) ≡ fill (stripe bar a e) (c .black) (now (rows .entry)) ⌝ }
 {
     let far = is_from_far(bar.kind);
     if is_vertical(bar.kind) {
-        let rows = interval_of(far, bar.y1, bar.y2, a, e);
+        let along = interval_of(far, bar.y1, bar.y2, a, e);
         fill_box(
-            framebuffer,
+            rows,
             wide(bar.x1),
             wide(bar.x2) + 1,
-            rows.from,
-            rows.to,
+            along.from,
+            along.to,
             c,
         );
         return;
     }
-    let columns = interval_of(far, bar.x1, bar.x2, a, e);
+    let along = interval_of(far, bar.x1, bar.x2, a, e);
     fill_box(
-        framebuffer,
-        columns.from,
-        columns.to,
+        rows,
+        along.from,
+        along.to,
         wide(bar.y1),
         wide(bar.y2) + 1,
         c,
     );
 }
 
-// 0 whitens all; another value paints only what differs from the old one. The answer keeps the value.
-pub fn write_bar(framebuffer: &mut [u8], bar: Bar, value: u8) -> Bar
-    ensures { λ r. ⌜ (r ≡ writtenBar bar value) × (now (framebuffer .exit) ≡ writeOf bar value (now (framebuffer .entry))) ⌝ }
+// 0 whitens all; another value paints only what differs from the old one.
+fn paint_write(rows: &mut [u8], bar: Bar, value: u8)
+    ensures { λ _. ⌜ now (rows .exit) ≡ writeOf bar value (now (rows .entry)) ⌝ }
 {
     let old = bar.value;
     let new = held(bar, value);
-    let mut written = bar;
-    written.value = new;
     if value == 0 {
-        fill_rectangle(framebuffer, bar.x1, bar.y1, bar.x2, bar.y2, Colour::WHITE);
-        return written;
+        fill_rectangle(rows, bar.x1, bar.y1, bar.x2, bar.y2, Colour::WHITE);
+        return;
     }
     if old < new {
-        fill_stripe(framebuffer, bar, old, new, Colour::BLACK);
+        fill_stripe(rows, bar, old, new, Colour::BLACK);
+        return;
+    }
+    fill_stripe(rows, bar, new, old, Colour::WHITE);
+}
+
+// The rows of the bar alone are lent on. The answer keeps the value as held.
+pub fn write_bar(framebuffer: &mut [u8], bar: Bar, value: u8) -> Bar
+    ensures { λ r. ⌜ (r ≡ writtenBar bar value) × (now (framebuffer .exit) ≡ writeOf bar value (now (framebuffer .entry))) ⌝ }
+{
+    let mut written = bar;
+    written.value = held(bar, value);
+    if bar.y2 < bar.y1 {
         return written;
     }
-    fill_stripe(framebuffer, bar, new, old, Colour::WHITE);
+    let rows = rows_between(framebuffer.len(), wide(bar.y1), wide(bar.y2) + 1);
+    let from = rows.from;
+    let to = rows.to;
+    paint_write(&mut framebuffer[from..to], raised(bar), value);
     written
 }
