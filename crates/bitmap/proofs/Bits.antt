@@ -11,7 +11,7 @@ use lib.Dec.{eqb}
 use lib.ListN.{length}
 use borrow.Author.Tests.{eq-eqb, ne-eqb, eqb-true}
 use borrow.Rule.Slice.PartMut.{putMid, midOf}
-use Rattle.pixels.specs.Framebuffer.{bitOf, put}
+use Rattle.pixels.specs.Framebuffer.{bitOf, put, width}
 use Rattle.pixels.specs.Regions.{within, span, box, rectangle}
 use Rattle.pixels.proofs.Tests.{iff, and-one, and-two}
 use Rattle.pixels.proofs.Bits.{bit-byte}
@@ -67,7 +67,7 @@ module _ {x1 x2 n w : ℕ} {bits g₀ : List ℕ} where
 
 -- ---- the box
 
-pub bits-lent : (g h bits : List ℕ) (x1 x2 y1 y2 w right : ℕ) (r : Rows) → Bytes g → RowsAre (length g) y1 y2 r → right ≡ min x2 240
+pub bits-lent : (g h bits : List ℕ) (x1 x2 y1 y2 w right : ℕ) (r : Rows) → Bytes g → RowsAre (length g) y1 y2 r → right ≡ min x2 width
     → h ≡ put (box x1 right 0 (r .count)) (packed x1 0 w bits) (midOf (r .from) (r .to - r .from) g)
     → putMid (r .from) (r .to - r .from) g h ≡ put (box x1 x2 y1 y2) (packed x1 y1 w bits) g
 unfolding packed
@@ -76,7 +76,7 @@ bits-lent g h bits x1 x2 y1 y2 w right r b s er e =
     ∙ put-same (box x1 x2 y1 y2) (box x1 x2 y1 y2) (λ u v. packed x1 0 w bits u (v - y1)) (packed x1 y1 w bits) g (λ u v on. refl) (λ u v on t. rw sub-zero)
 
 -- to the right of the framebuffer nothing is painted
-pub packed-off : (x y w h : ℕ) (bits g : List ℕ) → Bytes g → 240 ≤ x → g ≡ packedBox x y w h bits g
+pub packed-off : (x y w h : ℕ) (bits g : List ℕ) → Bytes g → width ≤ x → g ≡ packedBox x y w h bits g
 packed-off x y w h bits g b l =
     put-off (box x (x + w) y (y + h)) (packed x y w bits) g b (λ u v on. rw (within-iff x (x + w) u 0 0 u (omega arith) (omega arith), within-none 0 u))
 

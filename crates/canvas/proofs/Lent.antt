@@ -5,7 +5,7 @@ use mathlib.Core.List.{List}
 use Prim.Native.Nat.{ℕ, _-_, min}
 use lib.ListN.{length}
 use borrow.Rule.Slice.PartMut.{putMid, midOf}
-use Rattle.pixels.specs.Framebuffer.{Picture, put}
+use Rattle.pixels.specs.Framebuffer.{Picture, put, width}
 use Rattle.pixels.specs.Regions.{box}
 use Rattle.pixels.proofs.Pictures.{Bytes}
 use Rattle.pixels.proofs.Painting.{put-region}
@@ -14,7 +14,7 @@ use Rattle.pixels.proofs.Rows.{rows-box}
 use Rattle.canvas.specs.declared.Rows.{Rows}
 use Rattle.canvas.specs.Canvas.{RowsAre}
 
-pub lent-box : (g h : List ℕ) (x1 x2 y1 y2 right : ℕ) (r : Rows) (p : Picture) → Bytes g → RowsAre (length g) y1 y2 r → right ≡ min x2 240
+pub lent-box : (g h : List ℕ) (x1 x2 y1 y2 right : ℕ) (r : Rows) (p : Picture) → Bytes g → RowsAre (length g) y1 y2 r → right ≡ min x2 width
     → h ≡ put (box x1 right 0 (r .count)) p (midOf (r .from) (r .to - r .from) g)
     → putMid (r .from) (r .to - r .from) g h ≡ put (box x1 x2 y1 y2) (λ x y. p x (y - y1)) g
 lent-box g h x1 x2 y1 y2 right r p b s er e =
@@ -27,6 +27,6 @@ pub lent-whole : (g h : List ℕ) (x1 x2 y1 y2 : ℕ) (r : Rows) (p : Picture) �
     → h ≡ put (box x1 x2 0 (r .count)) p (midOf (r .from) (r .to - r .from) g)
     → putMid (r .from) (r .to - r .from) g h ≡ put (box x1 x2 y1 y2) (λ x y. p x (y - y1)) g
 lent-whole g h x1 x2 y1 y2 r p b s e =
-    lent-box g h x1 x2 y1 y2 (min x2 240) r p b s refl
-    (e ∙ put-region (box x1 x2 0 (r .count)) (box x1 (min x2 240) 0 (r .count)) p (midOf (r .from) (r .to - r .from) g)
-    (λ u v on. rw (within-cut x1 x2 240 u (on .0))))
+    lent-box g h x1 x2 y1 y2 (min x2 width) r p b s refl
+    (e ∙ put-region (box x1 x2 0 (r .count)) (box x1 (min x2 width) 0 (r .count)) p (midOf (r .from) (r .to - r .from) g)
+    (λ u v on. rw (within-cut x1 x2 width u (on .0))))

@@ -10,7 +10,7 @@ use lib.Dec.{eqb, ltb}
 use lib.Bits.{bitAnd, bitOr, and-le-l, or-lt}
 use lib.ListN.{length, getD, set}
 use borrow.Author.Tests.{eq-eqb, ne-eqb, lt-ltb, le-ltb}
-use Rattle.pixels.specs.Framebuffer.{Picture, On, bitOf, byteOf, cell, pixel, black, repaint, put, fill, rowStart, rowsEnd}
+use Rattle.pixels.specs.Framebuffer.{Picture, On, bitOf, byteOf, cell, pixel, black, repaint, put, fill, rowStart, rowsEnd, width}
 use Rattle.pixels.specs.Regions.{point}
 use Rattle.pixels.proofs.Bits.{byte-lt, byte-is, bit-byte, bit-or, bit-and, bit-not, bit-one}
 use Rattle.pixels.proofs.Pictures.{Bytes, set-is, pixel-behind}
@@ -65,7 +65,7 @@ pub stamp-off : (g : List ℕ) (i m : ℕ) (c : Bool) → Bytes g → length g �
 stamp-off g i m c h l = masked-off g i m (λ u v. c) h l
 
 -- the mask of one bit is one pixel
-pub plot-on : (g g′ : List ℕ) (x y i : ℕ) (c : Bool) → x < 240 → i ≡ cell x y → g′ ≡ fill (masked i (128 / 2 ^ (x % 8))) c g → g′ ≡ fill (point x y) c g
+pub plot-on : (g g′ : List ℕ) (x y i : ℕ) (c : Bool) → x < width → i ≡ cell x y → g′ ≡ fill (masked i (128 / 2 ^ (x % 8))) c g → g′ ≡ fill (point x y) c g
 plot-on g g′ x y i c hx ei e =
     e ∙ rw ei (put-region (masked (30 * y + x / 8) (128 / 2 ^ (x % 8))) (point x y) (λ u v. c) g
     (λ u v on. rw (bit-one (x % 8) (u % 8) (omega arith) (omega arith)) (elim (ℕ-discrete u x) [
@@ -83,22 +83,22 @@ plot-on g g′ x y i c hx ei e =
           | no q ↦ rw (ne-eqb v y q, ne-eqb (30 * v + x / 8) (30 * y + x / 8) (omega arith))
         ]
 
-pub plot-off : (g : List ℕ) (x y : ℕ) (c : Bool) → Bytes g → 240 ≤ x → g ≡ fill (point x y) c g
+pub plot-off : (g : List ℕ) (x y : ℕ) (c : Bool) → Bytes g → width ≤ x → g ≡ fill (point x y) c g
 plot-off g x y c h l = put-off (point x y) (λ u v. c) g h (λ u v on. rw (ne-eqb u x (omega arith)))
 
 -- ---- reading
 
-pub black-on : (g : List ℕ) (x y i : ℕ) → x < 240 → i ≡ cell x y → eqb (getD g i 0 / 2 ^ (7 - x % 8) % 2) 1 ≡ black g x y
+pub black-on : (g : List ℕ) (x y i : ℕ) → x < width → i ≡ cell x y → eqb (getD g i 0 / 2 ^ (7 - x % 8) % 2) 1 ≡ black g x y
 unfolding black pixel bitOf
-black-on g x y i h e = rw (e, lt-ltb x 240 h)
+black-on g x y i h e = rw (e, lt-ltb x width h)
 
 pub black-below : (g : List ℕ) (x y i : ℕ) → i ≡ cell x y → length g ≤ i → false ≡ black g x y
 unfolding black
-black-below g x y i e l = sym (rw (pixel-behind g x y (omega arith)) (and-false (ltb x 240)))
+black-below g x y i e l = sym (rw (pixel-behind g x y (omega arith)) (and-false (ltb x width)))
 
-pub black-right : (g : List ℕ) (x y : ℕ) → 240 ≤ x → false ≡ black g x y
+pub black-right : (g : List ℕ) (x y : ℕ) → width ≤ x → false ≡ black g x y
 unfolding black
-black-right g x y h = sym (rw (le-ltb x 240 h))
+black-right g x y h = sym (rw (le-ltb x width h))
 
 -- ---- the rule from a byte to a colour
 

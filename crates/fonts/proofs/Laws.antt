@@ -12,7 +12,7 @@ use Rattle.fonts.specs.declared.Check.{Check}
 use Rattle.fonts.specs.declared.Check.the-variants.{Good, Malformed}
 use Rattle.fonts.specs.Checks.{between, checkOf}
 use Rattle.fonts.specs.Bitmaps.{packedBytes, bitmapWidth, bitmapHeight, isBitmap}
-use Rattle.fonts.specs.Fonts.{nominalWidth, heightOf, firstOf, lastOf, countOf, offsetAt, widthAt, isEntry, areEntries, isFont}
+use Rattle.fonts.specs.Fonts.{nominalWidth, heightOf, firstOf, lastOf, countOf, offsetAt, widthAt, isEntry, areEntries, isFont, maxWidth}
 
 pub and-left : (a b : Bool) → (a && b) ≡ true → a ≡ true
 and-left true b e = refl
@@ -47,16 +47,16 @@ is-between a b n h = rw (le-leb a n (h .from), le-leb n b (h .to))
 
 -- w by h bits from offset o on are inside the file
 pub record Inside (s : List ℕ) (o w : ℕ) : Type 0 where
-  pub width : Within 1 240 w
+  pub width : Within 1 maxWidth w
   pub ends : o + packedBytes w (heightOf s) ≤ length s
 
 entry-inside : (s : List ℕ) (k : ℕ) → isEntry s k ≡ true → Inside s (offsetAt s k) (widthAt s k)
 unfolding isEntry
 entry-inside s k h =
-    let b = between 1 240 (widthAt s k) in
+    let b = between 1 maxWidth (widthAt s k) in
     let c = leb (offsetAt s k + packedBytes (widthAt s k) (heightOf s)) (length s) in
     record {
-      width = between-is 1 240 (widthAt s k) (and-left b c h);
+      width = between-is 1 maxWidth (widthAt s k) (and-left b c h);
       ends = leb-true (offsetAt s k + packedBytes (widthAt s k) (heightOf s)) (length s) (and-right b c h);
     }
 
@@ -71,7 +71,7 @@ entries-each (suc n) k s h (suc i) l =
 -- ---- a good font
 
 pub record Font (m : ℕ) (s : List ℕ) : Type 0 where
-  pub nominal : Within 1 240 (nominalWidth s)
+  pub nominal : Within 1 maxWidth (nominalWidth s)
   pub height : Within 1 m (heightOf s)
   pub order : firstOf s ≤ lastOf s
   pub table : 4 + 3 * countOf s ≤ length s
@@ -82,7 +82,7 @@ module _ (m : ℕ) (s : List ℕ) (h : isFont m s ≡ true) where
   unfolding isFont
   font =
       let a = leb 4 (length s) in
-      let b = between 1 240 (nominalWidth s) in
+      let b = between 1 maxWidth (nominalWidth s) in
       let c = between 1 m (heightOf s) in
       let d = leb (firstOf s) (lastOf s) in
       let e = leb (4 + 3 * countOf s) (length s) in
@@ -92,7 +92,7 @@ module _ (m : ℕ) (s : List ℕ) (h : isFont m s ≡ true) where
       let h3 = and-left (a && b && c) d h4 in
       let h2 = and-left (a && b) c h3 in
       record {
-        nominal = between-is 1 240 (nominalWidth s) (and-right a b h2);
+        nominal = between-is 1 maxWidth (nominalWidth s) (and-right a b h2);
         height = between-is 1 m (heightOf s) (and-right (a && b) c h3);
         order = leb-true (firstOf s) (lastOf s) (and-right (a && b && c) d h4);
         table = leb-true (4 + 3 * countOf s) (length s) (and-right (a && b && c && d) e h5);

@@ -13,7 +13,7 @@ use Rattle.fonts.specs.declared.Entry.{Entry}
 use Rattle.fonts.specs.declared.Check.the-variants.{Good, Malformed}
 use Rattle.fonts.specs.Checks.{between, checkOf}
 use Rattle.fonts.specs.Bitmaps.{packedBytes, bitmapWidth, bitmapHeight, isBitmap}
-use Rattle.fonts.specs.Fonts.{nominalWidth, heightOf, firstOf, lastOf, countOf, offsetAt, widthAt, entryOf, isEntry, areEntries, isFont}
+use Rattle.fonts.specs.Fonts.{nominalWidth, heightOf, firstOf, lastOf, countOf, offsetAt, widthAt, entryOf, isEntry, areEntries, isFont, maxWidth}
 
 -- ---- a product of two bytes
 
@@ -53,11 +53,11 @@ entry-is s k n o w e f g = rw (f, g, e)
 
 -- ---- the entries
 
-pub entry-narrow : (s : List ℕ) (k w : ℕ) (b : Bool) → w ≡ widthAt s k → b ≡ between 1 240 w → b ≡ false → false ≡ isEntry s k
+pub entry-narrow : (s : List ℕ) (k w : ℕ) (b : Bool) → w ≡ widthAt s k → b ≡ between 1 maxWidth w → b ≡ false → false ≡ isEntry s k
 unfolding isEntry
 entry-narrow s k w b e f g = rw (← e, ← f, g)
 
-pub entry-ends : (s : List ℕ) (k w h n o : ℕ) (b : Bool) → w ≡ widthAt s k → b ≡ between 1 240 w → b ≡ true → h ≡ heightOf s → n ≡ packedBytes w h → o ≡ offsetAt s k
+pub entry-ends : (s : List ℕ) (k w h n o : ℕ) (b : Bool) → w ≡ widthAt s k → b ≡ between 1 maxWidth w → b ≡ true → h ≡ heightOf s → n ≡ packedBytes w h → o ≡ offsetAt s k
     → leb (o + n) (length s) ≡ isEntry s k
 unfolding isEntry
 entry-ends s k w h n o b e f g i j l = rw (← e, ← f, g, j, l, i)
@@ -90,16 +90,16 @@ module _ (m : ℕ) (s : List ℕ) where
   unfolding isFont
   font-short h = rw (lt-leb 4 (length s) h)
 
-  module _ (w : ℕ) (b : Bool) (l : 4 ≤ length s) (e : w ≡ nominalWidth s) (f : b ≡ between 1 240 w) where
+  module _ (w : ℕ) (b : Bool) (l : 4 ≤ length s) (e : w ≡ nominalWidth s) (f : b ≡ between 1 maxWidth w) where
     pub font-nominal : b ≡ false → false ≡ isFont m s
     unfolding isFont
-    font-nominal g = let x : between 1 240 (nominalWidth s) ≡ false = rw e at (sym f ∙ g) in rw (le-leb 4 (length s) l, x)
+    font-nominal g = let x : between 1 maxWidth (nominalWidth s) ≡ false = rw e at (sym f ∙ g) in rw (le-leb 4 (length s) l, x)
 
     module _ (g : b ≡ true) (h : ℕ) (d : Bool) (i : h ≡ heightOf s) (j : d ≡ between 1 m h) where
       pub font-height : d ≡ false → false ≡ isFont m s
       unfolding isFont
       font-height k =
-          let x : between 1 240 (nominalWidth s) ≡ true = rw e at (sym f ∙ g) in
+          let x : between 1 maxWidth (nominalWidth s) ≡ true = rw e at (sym f ∙ g) in
           let y : between 1 m (heightOf s) ≡ false = rw i at (sym j ∙ k) in
           rw (le-leb 4 (length s) l, x, y)
 
@@ -107,7 +107,7 @@ module _ (m : ℕ) (s : List ℕ) where
       font-from : d ≡ true → isFont m s ≡ (leb (firstOf s) (lastOf s) && leb (4 + 3 * countOf s) (length s) && areEntries (countOf s) 0 s)
       unfolding isFont
       font-from k =
-          let x : between 1 240 (nominalWidth s) ≡ true = rw e at (sym f ∙ g) in
+          let x : between 1 maxWidth (nominalWidth s) ≡ true = rw e at (sym f ∙ g) in
           let y : between 1 m (heightOf s) ≡ true = rw i at (sym j ∙ k) in
           rw (le-leb 4 (length s) l, x, y)
 

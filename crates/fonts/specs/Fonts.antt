@@ -10,6 +10,10 @@ use Rattle.fonts.specs.declared.Entry.{Entry}
 use Rattle.fonts.specs.Checks.{between}
 use Rattle.fonts.specs.Bitmaps.{packedBytes}
 
+-- the widest glyph, as wide as the framebuffer
+abbrev pub maxWidth : ℕ
+maxWidth = 240
+
 abbrev pub nominalWidth : List ℕ → ℕ
 nominalWidth s = getD s 0 0
 
@@ -38,7 +42,7 @@ entryOf s k = record { offset = offsetAt s k; width = widthAt s k }
 
 -- its width is 1 to 240, and its rows are inside the file
 unfoldable pub isEntry : List ℕ → ℕ → Bool
-isEntry s k = between 1 240 (widthAt s k) && leb (offsetAt s k + packedBytes (widthAt s k) (heightOf s)) (length s)
+isEntry s k = between 1 maxWidth (widthAt s k) && leb (offsetAt s k + packedBytes (widthAt s k) (heightOf s)) (length s)
 
 -- the n entries from number k on
 unfoldable pub areEntries : ℕ → ℕ → List ℕ → Bool
@@ -50,7 +54,7 @@ areEntries (suc n) k s = isEntry s k && areEntries n (k + 1) s
 unfoldable pub isFont : ℕ → List ℕ → Bool
 isFont m s =
     leb 4 (length s)
-    && between 1 240 (nominalWidth s)
+    && between 1 maxWidth (nominalWidth s)
     && between 1 m (heightOf s)
     && leb (firstOf s) (lastOf s)
     && leb (4 + 3 * countOf s) (length s)

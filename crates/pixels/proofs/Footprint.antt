@@ -9,7 +9,7 @@ use native.Mathlib.Omega.{arith}
 use native.Mathlib.Decide.{decLt}
 use lib.Dec.{ltb}
 use borrow.Author.Tests.{le-ltb}
-use Rattle.pixels.specs.Framebuffer.{Region, Picture, cell, black, put}
+use Rattle.pixels.specs.Framebuffer.{Region, Picture, cell, black, put, width}
 use Rattle.pixels.specs.Regions.{everywhere}
 use Rattle.pixels.specs.Footprints.{SameOutside}
 use Rattle.pixels.proofs.Painting.{length-repaint, pixel-put}
@@ -40,10 +40,10 @@ outside-all g h l = record { long = l; same = λ x y on e. absurd (true≢false 
 pub black-outside : {f : Region} {g h : List ℕ} → SameOutside f g h → (x y : ℕ) → f x y ≡ false → black h x y ≡ black g x y
 unfolding black
 black-outside {f} {g} {h} s x y e =
-    elim (decLt x 240) [
-      | yes l ↦ ap (λ (b : Bool). ltb x 240 && b) (elim (decLt (cell x y) (length g)) [
+    elim (decLt x width) [
+      | yes l ↦ ap (λ (b : Bool). ltb x width && b) (elim (decLt (cell x y) (length g)) [
         | yes m ↦ s .same x y (l, m) e
         | no m ↦ pixel-behind h x y (omega (arith, s .long)) ∙ sym (pixel-behind g x y (omega arith))
       ])
-      | no l ↦ rw (le-ltb x 240 (omega arith))
+      | no l ↦ rw (le-ltb x width (omega arith))
     ]

@@ -11,7 +11,7 @@ use lib.Dec.{eqb}
 use lib.ListN.{length, getD, set, length-set, List·getD-eq-default}
 use lib.Seq.{ext-getD, getD-set-same, getD-set-other, set-out}
 use borrow.Author.Tests.{eq-eqb, ne-eqb}
-use Rattle.pixels.specs.Framebuffer.{Picture, On, cell, bitOf, byteOf, bytesOf, pixel, picture}
+use Rattle.pixels.specs.Framebuffer.{Picture, On, cell, bitOf, byteOf, bytesOf, pixel, picture, width}
 use Rattle.pixels.proofs.Bits.{byte-lt, bit-byte, bit-zero, byte-bit, byte-same}
 
 -- every number of the list is a byte
@@ -33,16 +33,16 @@ getD-bytes p i (suc n) (suc j) h =
 
 pub length-picture : (p : Picture) (n : ℕ) → length (picture p n) ≡ n
 unfolding picture
-length-picture p n = length-bytes (λ m. p (m % 240) (m / 240)) 0 n
+length-picture p n = length-bytes (λ m. p (m % width) (m / width)) 0 n
 
 -- byte j of a picture
 pub getD-picture : (p : Picture) (n j : ℕ) → j < n → getD (picture p n) j 0 ≡ byteOf (λ k. p (8 * (j % 30) + k) (j / 30))
 unfolding picture
 getD-picture p n j h =
-    getD-bytes (λ m. p (m % 240) (m / 240)) 0 n j h
-    ∙ byte-same (λ k. p ((8 * (0 + j) + k) % 240) ((8 * (0 + j) + k) / 240)) (λ k. p (8 * (j % 30) + k) (j / 30))
-    (λ k l. let a : (8 * (0 + j) + k) % 240 ≡ 8 * (j % 30) + k = omega arith in
-    let b : (8 * (0 + j) + k) / 240 ≡ j / 30 = omega arith in rw (a, b))
+    getD-bytes (λ m. p (m % width) (m / width)) 0 n j h
+    ∙ byte-same (λ k. p ((8 * (0 + j) + k) % width) ((8 * (0 + j) + k) / width)) (λ k. p (8 * (j % 30) + k) (j / 30))
+    (λ k l. let a : (8 * (0 + j) + k) % width ≡ 8 * (j % 30) + k = omega arith in
+    let b : (8 * (0 + j) + k) / width ≡ j / 30 = omega arith in rw (a, b))
 
 pub bytes-picture : (p : Picture) (n : ℕ) → Bytes (picture p n)
 bytes-picture p n i =

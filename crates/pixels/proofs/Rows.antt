@@ -11,7 +11,7 @@ use borrow.Author.Tests.{le-ltb}
 use lib.ListN.{length, getD, take, drop, List·getD-append}
 use lib.Seq.{length-take-le, getD-append-add, getD-take, getD-drop}
 use borrow.Rule.Slice.PartMut.{putMid, midOf, same-len-mid, mid-len}
-use Rattle.pixels.specs.Framebuffer.{Region, Picture, On, pixel, black, repaint, put, cell, rowStart, rowsEnd, rowCount}
+use Rattle.pixels.specs.Framebuffer.{Region, Picture, On, pixel, black, repaint, put, cell, rowStart, rowsEnd, rowCount, width}
 use Rattle.pixels.specs.Regions.{within, box}
 use Rattle.pixels.proofs.Pictures.{Bytes, pixel-behind}
 use Rattle.pixels.proofs.Painting.{is-repaint, repaint-same, pixel-repaint, length-repaint, bytes-repaint, put-region}
@@ -72,12 +72,12 @@ module _ (g : List ℕ) (y1 y2 a e : ℕ) (ea : a ≡ rowStart (length g) y1) (e
   pub black-part : (x y : ℕ) → 30 * y < length g → y1 ≤ y → y < y2 → black (midOf a (e - a) g) x (y - y1) ≡ black g x y
   unfolding black
   black-part x y on h k =
-      elim (decLt x 240) [
-        | yes l ↦ ap (λ (b : Bool). ltb x 240 && b) (elim (decLt (cell x y) (length g)) [
+      elim (decLt x width) [
+        | yes l ↦ ap (λ (b : Bool). ltb x width && b) (elim (decLt (cell x y) (length g)) [
           | yes m ↦ pixel-part x y (l, m) h k
           | no m ↦ pixel-behind (midOf a (e - a) g) x (y - y1) (rw part-long (omega arith)) ∙ sym (pixel-behind g x y (omega arith))
         ])
-        | no l ↦ rw (le-ltb x 240 (omega arith))
+        | no l ↦ rw (le-ltb x width (omega arith))
       ]
 
   -- and it lies in the part
@@ -139,11 +139,11 @@ module _ (g : List ℕ) (y1 y2 a e : ℕ) (ea : a ≡ rowStart (length g) y1) (e
 
   -- what paints columns x1 up to x2, cut to the framebuffer, in the rows that are lent, paints the whole box
   pub rows-box : (x1 x2 k : ℕ) (p : Picture) → Bytes g → k ≡ rowCount (length g) y1 y2
-      → putMid a (e - a) g (put (box x1 (min x2 240) 0 k) p (midOf a (e - a) g)) ≡ put (box x1 x2 y1 y2) (λ x y. p x (y - y1)) g
+      → putMid a (e - a) g (put (box x1 (min x2 width) 0 k) p (midOf a (e - a) g)) ≡ put (box x1 x2 y1 y2) (λ x y. p x (y - y1)) g
   rows-box x1 x2 k p b ek =
-      rows-put (box x1 (min x2 240) 0 k) p b
-      ∙ put-region (λ x y. box x1 (min x2 240) 0 k x (y - y1) && within y1 y2 y) (box x1 x2 y1 y2) (λ x y. p x (y - y1)) g
-      (λ x y on. rw (within-cut x1 x2 240 x (on .0)) (elim (decLt y y1) [
+      rows-put (box x1 (min x2 width) 0 k) p b
+      ∙ put-region (λ x y. box x1 (min x2 width) 0 k x (y - y1) && within y1 y2 y) (box x1 x2 y1 y2) (λ x y. p x (y - y1)) g
+      (λ x y on. rw (within-cut x1 x2 width x (on .0)) (elim (decLt y y1) [
         | yes q ↦ rw (within-before y1 y2 y q, and-false, and-false)
         | no q ↦ (elim (decLt y y2) [
           | yes r ↦ rw (within-yes y1 y2 y (omega arith) r, within-yes 0 k (y - y1) (omega arith) (rw ek (counted (length g) y1 y2 y (omega arith) (omega arith) r))) (tidy (within x1 x2 x))

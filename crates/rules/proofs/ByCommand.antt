@@ -8,7 +8,7 @@ use native.Mathlib.Omega.{arith}
 use lib.Dec.{eqb, leb, ltb}
 use lib.ListN.{length, take, drop, length-set}
 use borrow.Author.Tests.{leb-false}
-use Rattle.pixels.specs.Framebuffer.{plain}
+use Rattle.pixels.specs.Framebuffer.{plain, width}
 use Rattle.pixels.specs.Regions.{point, box, rectangle, everywhere}
 use Rattle.pixels.specs.Footprints.{SameOutside}
 use Rattle.pixels.proofs.Tests.{by-test}
@@ -126,7 +126,7 @@ placing : (w : World) (c r : ℕ) (o : Opened) → Obeying w quiet (placeIn w c 
 unfolding placeIn
 placing w c r (shut n) = tt
 placing w c r (opened f) =
-    passes w _ (eqb c 0 || eqb r 0 || leb 240 (placeX (port w .text) f c) || leb (rows w) (placeY (port w .text) f r)) 17 _ (λ _. fair-quiet w _ refl refl refl refl)
+    passes w _ (eqb c 0 || eqb r 0 || leb width (placeX (port w .text) f c) || leb (rows w) (placeY (port w .text) f r)) 17 _ (λ _. fair-quiet w _ refl refl refl refl)
 
 pub place-obeys : (w : World) (c r : ℕ) → Obeying w quiet (setPlace w c r)
 unfolding setPlace

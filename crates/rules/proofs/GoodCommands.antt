@@ -8,7 +8,7 @@ use native.Mathlib.Omega.{arith}
 use lib.Dec.{eqb, leb, ltb}
 use lib.ListN.{take, drop}
 use borrow.Author.Tests.{leb-false, ltb-true, le-leb, lt-ltb, not-false}
-use Rattle.pixels.specs.Framebuffer.{repaint}
+use Rattle.pixels.specs.Framebuffer.{repaint, width}
 use Rattle.pixels.proofs.Tests.{by-test}
 use Rattle.bar_graph.specs.declared.Bar.{Bar}
 use Rattle.bar_graph.specs.Bars.{lengthOf, heldTo, writeOf, writtenBar}
@@ -50,12 +50,12 @@ inside {n} {m} {w} p x1 y1 x2 y2 h k =
     let e = and-both (ltb x1 x2) (ltb y1 y2) (not-false (apart x1 y1 x2 y2) k) in
     let x = ltb-true x1 x2 (e .0) in
     let y = ltb-true y1 y2 (e .1) in
-    let hx = ltb-true x2 240 (and-both (ltb x1 240) (ltb x2 240) (b .0) .1) in
+    let hx = ltb-true x2 width (and-both (ltb x1 width) (ltb x2 width) (b .0) .1) in
     let hy = ltb-true y2 (rows w) (a .1) in
     let r = rows-are p in
     let l = p .low in
     record {
-      framebuffer = rw (e .0, e .1, lt-ltb x2 240 hx, lt-ltb y2 (n / 30) (omega arith));
+      framebuffer = rw (e .0, e .1, lt-ltb x2 width hx, lt-ltb y2 (n / 30) (omega arith));
       low = l;
       x1-fits = omega arith;
       y1-fits = omega arith;

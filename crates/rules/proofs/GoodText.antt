@@ -8,7 +8,7 @@ use native.Mathlib.Omega.{arith}
 use lib.Dec.{eqb, leb}
 use lib.ListN.{take, drop}
 use borrow.Author.Tests.{leb-true, leb-false}
-use Rattle.pixels.specs.Framebuffer.{repaint}
+use Rattle.pixels.specs.Framebuffer.{repaint, width}
 use Rattle.pixels.proofs.Tests.{by-test, or-one, or-two}
 use Rattle.pixels.proofs.Painting.{length-repaint, bytes-repaint}
 use Rattle.directory.specs.declared.Found.{Found}
@@ -66,19 +66,19 @@ font-numbered : (h : ℕ) (s : List ℕ) (i : ℕ) → Numbered (openFont h s i)
 unfolding openFont
 font-numbered h s i = by-test Numbered (eqb i 1) _ _ (λ _. tt) (λ _. found-numbered h (findOf s 1 i) s)
 
--- ---- places: a character ends at column 240 at most, and its row is on the framebuffer
+-- ---- places: a character ends at the last column at most, and its row is on the framebuffer
 
 abbrev Placed : ℕ → ℕ → Place → Type 0
 Placed h v nowhere = Unit {0}
-Placed h v (place x y up) = (x + v ≤ 240) × (y ≤ h)
+Placed h v (place x y up) = (x + v ≤ width) × (y ≤ h)
 
 room-placed : (h v f : ℕ) (p : Place) → Placed h v (fitted h v f p)
 unfolding fitted
 room-placed h v f nowhere = tt
 room-placed h v f (place x y up) =
-    by-test (Placed h v) (leb (x + v) 240 && leb (y + f) h) _ _
-    (λ e. let a = and-both (leb (x + v) 240) (leb (y + f) h) e in
-    let b = leb-true (x + v) 240 (a .0) in
+    by-test (Placed h v) (leb (x + v) width && leb (y + f) h) _ _
+    (λ e. let a = and-both (leb (x + v) width) (leb (y + f) h) e in
+    let b = leb-true (x + v) width (a .0) in
     let c = leb-true (y + f) h (a .1) in omega arith)
     (λ _. tt)
 
@@ -98,9 +98,9 @@ module _ {n m : ℕ} {w : World} (p : Parts n m w) where
   placing c r (opened f) k =
       let x = placeX (port w .text) f c in
       let y = placeY (port w .text) f r in
-      passes n m (eqb c 0 || eqb r 0 || leb 240 x || leb (rows w) y) 17 _ (omega arith)
-      (λ h. let hx = leb-false 240 x (or-two (eqb c 0 || eqb r 0) (leb 240 x) (or-one (eqb c 0 || eqb r 0 || leb 240 x) (leb (rows w) y) h)) in
-      let hy = leb-false (rows w) y (or-two (eqb c 0 || eqb r 0 || leb 240 x) (leb (rows w) y) h) in
+      passes n m (eqb c 0 || eqb r 0 || leb width x || leb (rows w) y) 17 _ (omega arith)
+      (λ h. let hx = leb-false width x (or-two (eqb c 0 || eqb r 0) (leb width x) (or-one (eqb c 0 || eqb r 0 || leb width x) (leb (rows w) y) h)) in
+      let hy = leb-false (rows w) y (or-two (eqb c 0 || eqb r 0 || leb width x) (leb (rows w) y) h) in
       put-text p (at-point (p .port-good .text) x y (omega (arith, hx)) (omega (arith, hy, rows-are p, p .low))))
 
   pub place-good : (c r : ℕ) → Leaves n m (setPlace w c r)

@@ -1,5 +1,6 @@
 -- NO BYTE SENDS MORE THAN TWO REPLY BYTES, and so no piece more than its room.
 -- Assumes nothing.
+use Rattle.pixels.specs.Framebuffer.{width}
 use mathlib.Core.Path.{_≡_, subst}
 use mathlib.Core.Bool.{Bool, true, false, not, _&&_, _||_}
 use mathlib.Core.List.{List, [], _∷_}
@@ -91,7 +92,7 @@ unfolding placeIn
 place-brief w x y (shut r) = mute _
 place-brief w x y (opened f) =
     let t = port w .text in
-    brief-if (eqb x 0 || eqb y 0 || leb 240 (placeX t f x) || leb (rows w) (placeY t f y)) 17 _ (silent (putText w (atPoint t (placeX t f x) (placeY t f y))))
+    brief-if (eqb x 0 || eqb y 0 || leb width (placeX t f x) || leb (rows w) (placeY t f y)) 17 _ (silent (putText w (atPoint t (placeX t f x) (placeY t f y))))
 
 -- ---- commands
 

@@ -1,5 +1,6 @@
 -- A STORED FILE IS ALTERED BY NO BYTE BUT THE LAST OF ITS DELETE OR OF A PURGE; an upload's byte that is not its last alters no record and no file.
 -- Assumes nothing.
+use Rattle.pixels.specs.Framebuffer.{width}
 use mathlib.Core.Path.{_≡_, refl, sym, subst}
 use mathlib.Core.Bool.{Bool, true, false, not, _&&_, _||_, false≢true}
 use mathlib.Core.List.{List, []}
@@ -87,7 +88,7 @@ module _ {m : ℕ} (w : World) (good-store : StoreGood m (w .store)) (k n : ℕ)
   placing : (c r : ℕ) (o : Opened) → Keeps (placeIn w c r o)
   unfolding placeIn
   placing c r (shut i) = tt
-  placing c r (opened f) = unless (eqb c 0 || eqb r 0 || leb 240 (placeX (port w .text) f c) || leb (rows w) (placeY (port w .text) f r)) 17 _ (λ _. same)
+  placing c r (opened f) = unless (eqb c 0 || eqb r 0 || leb width (placeX (port w .text) f c) || leb (rows w) (placeY (port w .text) f r)) 17 _ (λ _. same)
 
   place-stays : (c r : ℕ) → Keeps (setPlace w c r)
   unfolding setPlace

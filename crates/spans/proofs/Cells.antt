@@ -11,7 +11,7 @@ use lib.Bits.{bitAnd, bitOr, and-le-l, or-lt}
 use lib.ListN.{length, getD, set}
 use lib.Pow.{shr-shr, shr-le}
 use borrow.Author.Tests.{eq-eqb, eqb-true, lt-ltb, le-ltb, le-leb, lt-leb}
-use Rattle.pixels.specs.Framebuffer.{On, cell, bitOf, put}
+use Rattle.pixels.specs.Framebuffer.{On, cell, bitOf, put, width}
 use Rattle.pixels.specs.Regions.{within, span}
 use Rattle.pixels.proofs.Tests.{iff, and-one, and-two}
 use Rattle.pixels.proofs.Bits.{byte-is, bit-or, bit-and, bit-not, bit-run}
@@ -99,7 +99,7 @@ shifted-bit b s j h l = let t : s + (7 - j) ≡ 7 - (j - s) = omega arith in rw 
 
 -- ---- the columns painted
 
-module _ (g g′ : List ℕ) (x1 x2 y b i m s e : ℕ) (c-some : x1 < x2) (c-one : x2 ≤ 8 * (x1 / 8) + 8) (c-inside : x1 < 240) (es : s ≡ x1 % 8) (ee : e ≡ x2 - (x1 - s)) (ei : i ≡ cell x1 y)
+module _ (g g′ : List ℕ) (x1 x2 y b i m s e : ℕ) (c-some : x1 < x2) (c-one : x2 ≤ 8 * (x1 / 8) + 8) (c-inside : x1 < width) (es : s ≡ x1 % 8) (ee : e ≡ x2 - (x1 - s)) (ei : i ≡ cell x1 y)
     (em : m ≡ bitAnd (255 / 2 ^ s) (255 - 255 / 2 ^ e)) where
   bit : (u : ℕ) → bitOf m (u % 8) ≡ within s e (u % 8)
   bit u = rw em (mask-bit s e (u % 8) (omega arith) (omega (arith, c-one)) (omega arith))
@@ -129,7 +129,7 @@ module _ (g g′ : List ℕ) (x1 x2 y b i m s e : ℕ) (c-some : x1 < x2) (c-one
 pub cell-none : (g : List ℕ) (x e y b : ℕ) → Bytes g → e ≤ x → g ≡ put (span x e y) (bitsFrom x b) g
 cell-none g x e y b h l = put-off (span x e y) (bitsFrom x b) g h (λ u v on. rw (within-iff x e u 0 0 u (omega arith) (omega arith), within-none 0 u))
 
-pub cell-off : (g : List ℕ) (x e y b : ℕ) → Bytes g → 240 ≤ x → g ≡ put (span x e y) (bitsFrom x b) g
+pub cell-off : (g : List ℕ) (x e y b : ℕ) → Bytes g → width ≤ x → g ≡ put (span x e y) (bitsFrom x b) g
 cell-off g x e y b h l = put-off (span x e y) (bitsFrom x b) g h (λ u v on. rw (within-before x e u (omega (arith, on .0))))
 
 -- up to the end of the byte

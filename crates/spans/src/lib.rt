@@ -4,7 +4,7 @@ use canvas::cell;
 ghost use mathlib.Core.Path.{_≡_};
 ghost use Prim.Native.Nat.{_+_, _*_, _/_, _<_, _≤_};
 ghost use lib.ListN.{getD};
-ghost use Rattle.pixels.specs.Framebuffer.{put};
+ghost use Rattle.pixels.specs.Framebuffer.{put, width};
 ghost use Rattle.pixels.specs.Regions.{span};
 ghost use Rattle.canvas.specs.Canvas.{masked};
 ghost use Rattle.spans.specs.Bits.{windowOf, blendedOf, cellBits, bitsFrom, cellEnd};
@@ -59,7 +59,7 @@ pub fn cell_end(x: u16, x2: u16) -> u16
 
 // Columns x up to, and not with, `end` of row y, all of one byte, from the highest of eight bits on.
 fn paint_part(framebuffer: &mut [u8], x: u16, end: u16, y: u16, bits: u8)
-    requires { ⌜ (x < end) × (end ≤ 8 * (x / 8) + 8) × (x < 240) ⌝ }
+    requires { ⌜ (x < end) × (end ≤ 8 * (x / 8) + 8) × (x < width) ⌝ }
     ensures { λ _. ⌜ now (framebuffer .exit) ≡ put (span x end y) (bitsFrom x bits) (now (framebuffer .entry)) ⌝ }
 {
     let start = x % 8;

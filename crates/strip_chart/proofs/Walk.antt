@@ -11,7 +11,7 @@ use lib.Dec.{eqb}
 use lib.ListN.{length}
 use borrow.Author.Tests.{eq-eqb, ne-eqb, eqb-true, lt-ltb}
 use borrow.Rule.Slice.PartMut.{putMid, midOf}
-use Rattle.pixels.specs.Framebuffer.{bitOf, pixel, black, put, fill}
+use Rattle.pixels.specs.Framebuffer.{bitOf, pixel, black, put, fill, width}
 use Rattle.pixels.specs.Regions.{within, point, span, box, rectangle}
 use Rattle.pixels.proofs.Tests.{and-one, and-two}
 use Rattle.pixels.proofs.Bits.{bit-byte}
@@ -68,7 +68,7 @@ pub record PartIs (right : Bool) (x1 x2 x : ℕ) (p : Part) : Type 0 where
   -- each of its columns has its source on the framebuffer, and that was not passed
   pub other : (u : ℕ) → p .from ≤ u → u < p .to → u ≢ entering right x1 x2
   pub unpassed : (u : ℕ) → p .from ≤ u → u < p .to → passed right x1 x2 x (source right u) ≡ false
-  pub onward : (u : ℕ) → p .from ≤ u → u < p .to → (source right (p .from) + (u - p .from) ≡ source right u) × (source right u < 240)
+  pub onward : (u : ℕ) → p .from ≤ u → u < p .to → (source right (p .from) + (u - p .from) ≡ source right u) × (source right u < width)
 
 nearer-left : (x1 x m : ℕ) → x1 < m → m ≤ x → apart (m - 1) x1 < apart x x1
 nearer-left x1 x m h k = let a : x1 - (m - 1) ≡ 0 = omega arith in let b : x1 - x ≡ 0 = omega arith in rw (a, b) (omega arith)
@@ -76,7 +76,7 @@ nearer-left x1 x m h k = let a : x1 - (m - 1) ≡ 0 = omega arith in let b : x1 
 nearer-right : (x2 x m : ℕ) → x < m → m ≤ x2 → apart m x2 < apart x x2
 nearer-right x2 x m h k = let a : m - x2 ≡ 0 = omega arith in let b : x - x2 ≡ 0 = omega arith in rw (a, b) (omega arith)
 
-part-is : (right : Bool) (x1 x2 x : ℕ) → x1 ≤ x → x ≤ x2 → x2 < 240 → x ≢ entering right x1 x2 → PartIs right x1 x2 x (partOf right x (entering right x1 x2))
+part-is : (right : Bool) (x1 x2 x : ℕ) → x1 ≤ x → x ≤ x2 → x2 < width → x ≢ entering right x1 x2 → PartIs right x1 x2 x (partOf right x (entering right x1 x2))
 unfolding partOf beyond entering source passed
 part-is true x1 x2 x h k l n =
     let m : x1 < x = omega arith in
@@ -108,13 +108,13 @@ part-is false x1 x2 x h k l n =
     }
 
 -- a framebuffer's rows are packed bits
-packed-row : (g : List ℕ) (x y : ℕ) → x < 240 → packedBit g (240 * y + x) ≡ black g x y
+packed-row : (g : List ℕ) (x y : ℕ) → x < width → packedBit g (width * y + x) ≡ black g x y
 unfolding packedBit black pixel
 packed-row g x y h =
-    let d : (240 * y + x) / 8 ≡ 30 * y + x / 8 = omega arith in
-    let m : (240 * y + x) % 8 ≡ x % 8 = omega arith in rw (d, m, lt-ltb x 240 h)
+    let d : (width * y + x) / 8 ≡ 30 * y + x / 8 = omega arith in
+    let m : (width * y + x) % 8 ≡ x % 8 = omega arith in rw (d, m, lt-ltb x width h)
 
-entering-in : (right : Bool) (x1 x2 : ℕ) → x1 ≤ x2 → x2 < 240 → entering right x1 x2 < 240
+entering-in : (right : Bool) (x1 x2 : ℕ) → x1 ≤ x2 → x2 < width → entering right x1 x2 < width
 unfolding entering
 entering-in true x1 x2 h k = omega arith
 entering-in false x1 x2 h k = k
@@ -137,17 +137,17 @@ module _ {right : Bool} {x1 x2 y : ℕ} {g₀ : List ℕ} where
       })
 
   module _ {x end : ℕ} {g : List ℕ} (s : Shifting right x1 x2 y x g₀ g) (ee : end ≡ entering right x1 x2) where
-    pub shift-part : {p : Part} → x2 < 240 → x ≢ end → p ≡ partOf right x end → PartIs right x1 x2 x p
+    pub shift-part : {p : Part} → x2 < width → x ≢ end → p ≡ partOf right x end → PartIs right x1 x2 x p
     shift-part l n e = rw (e, ee) (part-is right x1 x2 x (s .low) (s .high) l (λ q. n (q ∙ sym ee)))
 
-    pub shift-asks : x2 < 240 → (x < 240) × (end < 240)
+    pub shift-asks : x2 < width → (x < width) × (end < width)
     shift-asks l = rw ee (omega (arith, s .high), entering-in right x1 x2 (omega (arith, s .low, s .high)) l)
 
     pub shift-nearer : {p : Part} {n : ℕ} → PartIs right x1 x2 x p → n ≡ beyond right p → apart n end < apart x end
     shift-nearer t e = rw (e, ee) (t .nearer)
 
     -- one part more
-    pub shift-step : {k b n : ℕ} {p : Part} {h : List ℕ} → PartIs right x1 x2 x p → n ≡ beyond right p → k ≡ source right (p .from) → b ≡ windowOf g (240 * y + k)
+    pub shift-step : {k b n : ℕ} {p : Part} {h : List ℕ} → PartIs right x1 x2 x p → n ≡ beyond right p → k ≡ source right (p .from) → b ≡ windowOf g (width * y + k)
         → h ≡ put (span (p .from) (cellEnd (p .from) (p .to)) y) (bitsFrom (p .from) b) g → Shifting right x1 x2 y n g₀ h
     unfolding shifted bitsFrom windowOf
     shift-step {k} {b} {n} {p} {h} t en ek eb e = rw en (record { low = t .low; high = t .high; long = ap length all ∙ length-repaint _ g₀; shows = all })
@@ -155,8 +155,8 @@ module _ {right : Bool} {x1 x2 y : ℕ} {g₀ : List ℕ} where
         read : (u : ℕ) → p .from ≤ u → u < p .to → bitOf b (u - p .from) ≡ shifted right x1 x2 g₀ u y
         read u a c =
             rw (eb, ne-eqb u (entering right x1 x2) (t .other u a c))
-            (bit-byte (λ i. packedBit g (240 * y + k + i)) (u - p .from) (omega (arith, t .byte))
-            ∙ (let z : 240 * y + k + (u - p .from) ≡ 240 * y + source right u = omega (arith, ek, t .onward u a c .0) in rw z)
+            (bit-byte (λ i. packedBit g (width * y + k + i)) (u - p .from) (omega (arith, t .byte))
+            ∙ (let z : width * y + k + (u - p .from) ≡ width * y + source right u = omega (arith, ek, t .onward u a c .0) in rw z)
             ∙ packed-row g (source right u) y (t .onward u a c .1)
             ∙ rw (s .shows) (black-outside (outside-put (λ u v. passed right x1 x2 x u && eqb v y) (shifted right x1 x2 g₀) g₀) (source right u) y
             (rw (t .unpassed u a c))))
@@ -203,16 +203,16 @@ strip-off right x1 y1 x2 y2 g b h =
     (λ u v on. rw (within-iff x1 (x2 + 1) u 0 0 u (omega (arith, on .0)) (omega arith), within-none 0 u))
 
 -- what lies beyond it is white, so the strip may end with it
-cut-pixel : (right : Bool) (x1 x2 u v : ℕ) (g : List ℕ) → u < 240
+cut-pixel : (right : Bool) (x1 x2 u v : ℕ) (g : List ℕ) → u < width
     → (not (eqb u (entering right x1 (min x2 239))) && black g (source right u) v) ≡ (not (eqb u (entering right x1 x2)) && black g (source right u) v)
 unfolding entering source
 cut-pixel true x1 x2 u v g h = refl
 cut-pixel false x1 x2 u v g h =
-    elim (decLt x2 240) [
+    elim (decLt x2 width) [
       | yes l ↦ (let z : min x2 239 ≡ x2 = omega arith in rw z)
       | no l ↦ (let z : min x2 239 ≡ 239 = omega arith in
           rw (z, ne-eqb u x2 (omega arith)) (elim (ℕ-discrete u 239) [
-            | yes e ↦ rw (e, ← black-right g 240 v (omega arith))
+            | yes e ↦ rw (e, ← black-right g width v (omega arith))
             | no e ↦ rw (ne-eqb u 239 e)
           ]))
     ]

@@ -10,6 +10,7 @@ use spans::window;
 ghost use mathlib.Core.Path.{_≡_};
 ghost use mathlib.Core.Bool.{true};
 ghost use Prim.Native.Nat.{_≤_, _<_, max};
+ghost use Rattle.pixels.specs.Framebuffer.{width};
 ghost use Rattle.strip_chart.specs.Strips.{entering, source, shiftedStrip};
 ghost use Rattle.strip_chart.specs.Walk.{leaving, partOf, beyond, shiftedRow, shiftedRows};
 
@@ -49,7 +50,7 @@ fn most(a: u16, b: u16) -> u16
 
 // The columns in the byte of column x from it on towards column `end`, and not with that one.
 fn part_of(right: bool, x: u16, end: u16) -> Part
-    requires { ⌜ (x < 240) × (end < 240) ⌝ }
+    requires { ⌜ (x < width) × (end < width) ⌝ }
     ensures { λ r. ⌜ r ≡ partOf right x end ⌝ }
 {
     let start = 8 * (x / 8);
@@ -75,7 +76,7 @@ fn beyond(right: bool, part: Part) -> u16
 
 // Columns x1 to x2 of row y moved by one.
 fn shift_row(rows: &mut [u8], x1: u16, x2: u16, y: u16, right: bool)
-    requires { ⌜ (x1 ≤ x2) × (x2 < 240) ⌝ }
+    requires { ⌜ (x1 ≤ x2) × (x2 < width) ⌝ }
     ensures { λ _. ⌜ now (rows .exit) ≡ shiftedRow right x1 x2 y (now (rows .entry)) ⌝ }
 {
     // The number of the row's first pixel, as a bit of the framebuffer.
@@ -93,7 +94,7 @@ fn shift_row(rows: &mut [u8], x1: u16, x2: u16, y: u16, right: bool)
 
 // Columns x1 to x2 of the first n rows that are lent, moved by one.
 fn shift_rows(rows: &mut [u8], x1: u16, x2: u16, n: u16, right: bool)
-    requires { ⌜ (x1 ≤ x2) × (x2 < 240) ⌝ }
+    requires { ⌜ (x1 ≤ x2) × (x2 < width) ⌝ }
     ensures { λ _. ⌜ now (rows .exit) ≡ shiftedRows right x1 x2 n (now (rows .entry)) ⌝ }
 {
     let mut y = 0;

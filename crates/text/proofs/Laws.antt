@@ -6,7 +6,7 @@ use native.Mathlib.Nat.{mul-le-mul}
 use Prim.Native.Nat.{ℕ, _+_, _-_, _*_, _<_, _≤_}
 use lib.ListN.{take, drop}
 use borrow.Author.Tests.{eq-eqb, ne-eqb, le-leb, lt-leb}
-use Rattle.pixels.specs.Framebuffer.{height}
+use Rattle.pixels.specs.Framebuffer.{height, width}
 use Rattle.directory.specs.declared.Found.{Found}
 use Rattle.directory.specs.declared.Found.the-variants.{At, Nothing}
 use Rattle.directory.specs.Directory.{findOf}
@@ -82,17 +82,17 @@ module _ (g s : List ℕ) (st : State) (h c r : ℕ) (l : List ℕ) (tall : heig
     y-is : y ≡ placeY (st .port .text) l r
     y-is = at-y ∙ rw high
 
-    pub place-off-right : 240 ≤ x → placeIn (world g s st) c r (opened l) ≡ refused 17 []
+    pub place-off-right : width ≤ x → placeIn (world g s st) c r (opened l) ≡ refused 17 []
     unfolding placeIn
-    place-off-right b = rw (ne-eqb c 0 column, ne-eqb r 0 row, ← x-is, le-leb 240 x b)
+    place-off-right b = rw (ne-eqb c 0 column, ne-eqb r 0 row, ← x-is, le-leb width x b)
 
-    pub place-off-below : x < 240 → h ≤ y → placeIn (world g s st) c r (opened l) ≡ refused 17 []
+    pub place-off-below : x < width → h ≤ y → placeIn (world g s st) c r (opened l) ≡ refused 17 []
     unfolding placeIn
-    place-off-below b d = rw (ne-eqb c 0 column, ne-eqb r 0 row, ← x-is, lt-leb 240 x b, tall, ← y-is, le-leb h y d)
+    place-off-below b d = rw (ne-eqb c 0 column, ne-eqb r 0 row, ← x-is, lt-leb width x b, tall, ← y-is, le-leb h y d)
 
-    pub place-done : x < 240 → y < h → placeIn (world g s st) c r (opened l) ≡ quietly (world g s (putTextOf st (atPoint (st .port .text) x y)))
+    pub place-done : x < width → y < h → placeIn (world g s st) c r (opened l) ≡ quietly (world g s (putTextOf st (atPoint (st .port .text) x y)))
     unfolding placeIn
-    place-done b d = rw (ne-eqb c 0 column, ne-eqb r 0 row, ← x-is, lt-leb 240 x b, tall, ← y-is, lt-leb h y d)
+    place-done b d = rw (ne-eqb c 0 column, ne-eqb r 0 row, ← x-is, lt-leb width x b, tall, ← y-is, lt-leb h y d)
 
 module _ (g s : List ℕ) (st : State) (h c r : ℕ) (tall : height g ≡ h) where
   pub place-shut : (k : ℕ) → openFont h s (st .port .text .font) ≡ shut k → setPlace (world g s st) c r ≡ refused k []

@@ -28,28 +28,28 @@ use Rattle.text.specs.Places.{placeOf}
 -- ---- the wrap
 
 module _ (t : Text) (v f x y u : ℕ) where
-  pub wrap-here : x ≡ t .x → y ≡ t .y → u ≡ 0 → t .x + v ≤ 240 → At x y u ≡ placeOf (wrapped t v f)
+  pub wrap-here : x ≡ t .x → y ≡ t .y → u ≡ 0 → t .x + v ≤ width → At x y u ≡ placeOf (wrapped t v f)
   unfolding wrapped placeOf
-  wrap-here ex ey eu a = rw (le-leb (t .x + v) 240 a, ex, ey, eu)
+  wrap-here ex ey eu a = rw (le-leb (t .x + v) width a, ex, ey, eu)
 
-  module _ (far : 240 < t .x + v) where
+  module _ (far : width < t .x + v) where
     pub wrap-nowhere : not (t .wrap) ≡ true → Nowhere ≡ placeOf (wrapped t v f)
     unfolding wrapped placeOf
-    wrap-nowhere a = rw (lt-leb (t .x + v) 240 far, a)
+    wrap-nowhere a = rw (lt-leb (t .x + v) width far, a)
 
     module _ (on : not (t .wrap) ≡ false) (ex : x ≡ t .left) where
       pub wrap-below : y ≡ t .y + f + t .«line_space» → u ≡ 0 → t .y + f + t .«line_space» + f ≤ t .«scroll_row» → At x y u ≡ placeOf (wrapped t v f)
       unfolding wrapped placeOf
-      wrap-below ey eu a = rw (lt-leb (t .x + v) 240 far, on, le-leb (t .y + f + t .«line_space» + f) (t .«scroll_row») a, ex, ey, eu)
+      wrap-below ey eu a = rw (lt-leb (t .x + v) width far, on, le-leb (t .y + f + t .«line_space» + f) (t .«scroll_row») a, ex, ey, eu)
 
       module _ (low : t .«scroll_row» < t .y + f + t .«line_space» + f) where
         pub wrap-up : y ≡ t .y → u ≡ f + t .«line_space» → t .scroll ≡ true → At x y u ≡ placeOf (wrapped t v f)
         unfolding wrapped placeOf
-        wrap-up ey eu b = rw (lt-leb (t .x + v) 240 far, on, lt-leb (t .y + f + t .«line_space» + f) (t .«scroll_row») low, b, ex, ey, eu)
+        wrap-up ey eu b = rw (lt-leb (t .x + v) width far, on, lt-leb (t .y + f + t .«line_space» + f) (t .«scroll_row») low, b, ex, ey, eu)
 
         pub wrap-top : y ≡ t .top → u ≡ 0 → t .scroll ≡ false → At x y u ≡ placeOf (wrapped t v f)
         unfolding wrapped placeOf
-        wrap-top ey eu b = rw (lt-leb (t .x + v) 240 far, on, lt-leb (t .y + f + t .«line_space» + f) (t .«scroll_row») low, b, ex, ey, eu)
+        wrap-top ey eu b = rw (lt-leb (t .x + v) width far, on, lt-leb (t .y + f + t .«line_space» + f) (t .«scroll_row») low, b, ex, ey, eu)
 
 -- ---- the room
 
@@ -69,21 +69,21 @@ module _ (h v f : ℕ) (p : Ruled) (c : Place) (found : c ≡ placeOf p) where
   room-nowhere e = rw (nowhere-is p (sym found ∙ e))
 
   module _ (x y u : ℕ) (here : c ≡ At x y u) where
-    pub room-right : 240 < x + v → Nowhere ≡ placeOf (fitted h v f p)
+    pub room-right : width < x + v → Nowhere ≡ placeOf (fitted h v f p)
     unfolding fitted placeOf
-    room-right a = rw (at-is p x y u (sym found ∙ here), lt-leb (x + v) 240 a)
+    room-right a = rw (at-is p x y u (sym found ∙ here), lt-leb (x + v) width a)
 
-    pub room-below : x + v ≤ 240 → h < y + f → Nowhere ≡ placeOf (fitted h v f p)
+    pub room-below : x + v ≤ width → h < y + f → Nowhere ≡ placeOf (fitted h v f p)
     unfolding fitted placeOf
-    room-below a b = rw (at-is p x y u (sym found ∙ here), le-leb (x + v) 240 a, lt-leb (y + f) h b)
+    room-below a b = rw (at-is p x y u (sym found ∙ here), le-leb (x + v) width a, lt-leb (y + f) h b)
 
-    pub room-here : x + v ≤ 240 → y + f ≤ h → At x y u ≡ placeOf (fitted h v f p)
+    pub room-here : x + v ≤ width → y + f ≤ h → At x y u ≡ placeOf (fitted h v f p)
     unfolding fitted placeOf
-    room-here a b = rw (at-is p x y u (sym found ∙ here), le-leb (x + v) 240 a, le-leb (y + f) h b)
+    room-here a b = rw (at-is p x y u (sym found ∙ here), le-leb (x + v) width a, le-leb (y + f) h b)
 
 -- what a place with room gives
 pub record Fits (h v f x y : ℕ) : Type 0 where
-  pub right : x + v ≤ 240
+  pub right : x + v ≤ width
   pub below : y + f ≤ h
 
 fits-by : (h v f a b u x y k : ℕ) (t : Bool) → (leb (a + v) width && leb (b + f) h) ≡ t → cond t (place a b u) nowhere ≡ place x y k → Fits h v f x y

@@ -1,3 +1,4 @@
+use Rattle.pixels.specs.Framebuffer.{width}
 use Prim.Native.Nat.{_-_, _≤_}
 use borrow.Author.Needs.{needs}
 use Rattle.listing.proofs.next_black.Statement.{statement}
@@ -7,7 +8,7 @@ abbrev Inv-loop : tie.InvT-loop
 Inv-loop framebuffer x y next₀ next = x ≤ next
 
 abbrev μ-loop : tie.MeasureT-loop
-μ-loop framebuffer x y next₀ next = 240 - next
+μ-loop framebuffer x y next₀ next = width - next
 
 loop-holds : tie.Need-loop-holds Inv-loop μ-loop
 loop-holds c = search needs

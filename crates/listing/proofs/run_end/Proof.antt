@@ -1,3 +1,4 @@
+use Rattle.pixels.specs.Framebuffer.{width}
 use Prim.Native.Nat.{_-_, _≤_}
 use borrow.Author.Needs.{needs}
 use Rattle.listing.proofs.run_end.Statement.{statement}
@@ -7,7 +8,7 @@ abbrev Inv-loop : tie.InvT-loop
 Inv-loop framebuffer x y end₀ end = x ≤ end
 
 abbrev μ-loop : tie.MeasureT-loop
-μ-loop framebuffer x y end₀ end = 240 - end
+μ-loop framebuffer x y end₀ end = width - end
 
 loop-holds : tie.Need-loop-holds Inv-loop μ-loop
 loop-holds c = search needs

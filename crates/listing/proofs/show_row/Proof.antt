@@ -1,3 +1,4 @@
+use Rattle.pixels.specs.Framebuffer.{width}
 use Prim.Native.Nat.{_-_}
 use borrow.Author.Needs.{needs}
 use Rattle.listing.proofs.show_row.Statement.{statement}
@@ -7,7 +8,7 @@ abbrev Inv-loop : tie.InvT-loop
 Inv-loop framebuffer y x₀ t6 x = Unit {0}
 
 abbrev μ-loop : tie.MeasureT-loop
-μ-loop framebuffer y x₀ t6 x = 240 - x
+μ-loop framebuffer y x₀ t6 x = width - x
 
 next-black-requires : tie.Need-next-black-requires Inv-loop μ-loop
 next-black-requires c κs = search needs
