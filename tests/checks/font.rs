@@ -43,6 +43,29 @@ fn all_different_and_one_blank() {
 }
 
 #[test]
+fn fifth_column_is_white() {
+    for (number, rows) in shapes() {
+        assert!(rows.iter().all(|row| !row[4]), "character {number}");
+    }
+}
+
+/// In how many of their cells two shapes differ.
+fn distance(one: &[Vec<bool>], other: &[Vec<bool>]) -> usize {
+    one.concat().iter().zip(other.concat()).filter(|(a, b)| **a != *b).count()
+}
+
+#[test]
+fn shapes_and_digits_are_apart() {
+    let all = shapes();
+    for (k, (one, rows)) in all.iter().enumerate() {
+        for (other, others) in &all[k + 1..] {
+            let least = if one.is_ascii_digit() && other.is_ascii_digit() { 4 } else { 2 };
+            assert!(distance(rows, others) >= least, "characters {one} and {other}");
+        }
+    }
+}
+
+#[test]
 fn glyphs_are_the_drawn_shapes() {
     let bytes = built_in_font();
     let font = Font::open(&bytes).unwrap();

@@ -1,14 +1,14 @@
--- The rules of the built-in font, each by one test over its 95 glyphs.
+-- The rules of the built-in font, each by one test over its 95 glyphs or their pairs.
 -- Assumes nothing.
 use mathlib.Core.Path.{_≡_, refl, sym, ap, _∙_}
 use mathlib.Core.List.{List, [], _∷_}
-use mathlib.Core.Bool.{Bool, true, _&&_}
+use mathlib.Core.Bool.{Bool, true, false, _&&_}
 use Prim.Native.Nat.{ℕ, zero, suc, _+_, _-_, _*_, _/_, _≤_, _<_}
 use native.Mathlib.Omega.{arith}
 use lib.Dec.{eqb}
 use lib.ListN.{length, getD, drop, List·getD-eq-default}
 use lib.Seq.{drop-drop}
-use borrow.Author.Tests.{eqb-true}
+use borrow.Author.Tests.{eqb-true, eqb-false}
 use Rattle.fonts.specs.Checks.{between}
 use Rattle.fonts.specs.Bitmaps.{packedBytes}
 use Rattle.fonts.specs.Fonts.{nominalWidth, heightOf, firstOf, lastOf, offsetAt, widthAt, isEntry, areEntries, isFont}
@@ -17,8 +17,8 @@ use Rattle.opened_font.specs.declared.Glyph.the-variants.{At}
 use Rattle.opened_font.specs.Glyphs.{glyphOf}
 use Rattle.opened_font.proofs.Laws.{glyph-there}
 use Rattle.builtin_font.specs.Table.{table}
-use Rattle.builtin_font.specs.Shapes.{fiveBytes, bitsAt, shapeAt, spareAt}
-use Rattle.builtin_font.proofs.Tests.{allBelow, below, absent, distinct, places}
+use Rattle.builtin_font.specs.Shapes.{fiveBytes, bitsAt, shapeAt, digitShape, spareAt, fromLast, pixelOf, differing, distance}
+use Rattle.builtin_font.proofs.Tests.{allBelow, below, farFrom, allApart, places, no-distance}
 
 pub table-length : length table ≡ 764
 unfolding table
@@ -84,16 +84,25 @@ right-at k h =
       spare = eqb-true (spareAt k) 0 (and-right (a && b) c t);
     }
 
--- ---- all 95 are different
+-- ---- the fifth column is white
+
+abbrev isWhite : ℕ → ℕ → Bool
+isWhite k y = eqb (pixelOf (shapeAt k) 4 y) 0
+
+all-white : allBelow 95 (λ k. allBelow 7 (isWhite k)) ≡ true
+unfolding table allBelow bitsAt fiveBytes fromLast
+all-white = refl
+
+pub white-column : (k y : ℕ) → k < 95 → y < 7 → pixelOf (shapeAt k) 4 y ≡ 0
+white-column k y h l =
+    eqb-true (pixelOf (shapeAt k) 4 y) 0 (below 7 (isWhite k) (below 95 (λ (k : ℕ). allBelow 7 (isWhite k)) all-white k h) y l)
+
+-- ---- each two of the 95 differ in two pixels or more, each two digits in four or more
 
 -- n shapes, five bytes each
 unfoldable pub shapes : ℕ → List ℕ → List ℕ
 shapes zero l = []
 shapes (suc n) l = fiveBytes l / 32 ∷ shapes n (drop 5 l)
-
-all-different : distinct (shapes 95 (drop 289 table)) ≡ true
-unfolding table distinct absent shapes fiveBytes
-all-different = refl
 
 length-shapes : (n : ℕ) (l : List ℕ) → length (shapes n l) ≡ n
 unfolding shapes
@@ -108,16 +117,53 @@ shape-is (suc n) l (suc k) h =
     let e : 5 * suc k ≡ 5 + 5 * k = omega arith in
     shape-is n (drop 5 l) k (omega arith) ∙ rw (e, drop-drop)
 
-drawn : (k : ℕ) → k < 95 → getD (shapes 95 (drop 289 table)) k 0 ≡ shapeAt k
+-- n glyphs from glyph number a on
+abbrev glyphs : ℕ → ℕ → List ℕ
+glyphs n a = shapes n (drop (289 + 5 * a) table)
+
+drawn : (n a k : ℕ) → k < n → getD (glyphs n a) k 0 ≡ shapeAt (a + k)
 unfolding bitsAt
-drawn k h = shape-is 95 (drop 289 table) k h ∙ rw drop-drop
+drawn n a k h =
+    let e : 289 + 5 * (a + k) ≡ 289 + 5 * a + 5 * k = omega arith in
+    shape-is n (drop (289 + 5 * a) table) k h ∙ rw (e, drop-drop)
+
+pair : (m n a : ℕ) → allApart m (glyphs n a) ≡ true → (i j : ℕ) → i < n → j < n → (i ≡ j → ⊥) → m ≤ distance (shapeAt (a + i)) (shapeAt (a + j))
+pair m n a t i j h k d =
+    let e = length-shapes n (drop (289 + 5 * a) table) in
+    rw (drawn n a i h, drawn n a j k) at (places m (glyphs n a) t i j (omega arith) (omega arith) d)
+
+all-apart : allApart 2 (glyphs 95 0) ≡ true
+unfolding table allApart farFrom shapes fiveBytes differing fromLast
+all-apart = refl
+
+pub apart : (i j : ℕ) → i < 95 → j < 95 → (i ≡ j → ⊥) → 2 ≤ distance (shapeAt i) (shapeAt j)
+apart i j h k d = rw (from-0 i, from-0 j) at (pair 2 95 0 all-apart i j h k d)
+  where
+    from-0 : (n : ℕ) → 0 + n ≡ n
+    from-0 n = omega arith
+
+all-digits-apart : allApart 4 (glyphs 10 16) ≡ true
+unfolding table allApart farFrom shapes fiveBytes differing fromLast
+all-digits-apart = refl
+
+pub digits-apart : (d e : ℕ) → d < 10 → e < 10 → (d ≡ e → ⊥) → 4 ≤ distance (digitShape d) (digitShape e)
+digits-apart d e h k n = pair 4 10 16 all-digits-apart d e h k n
 
 -- no two glyphs have one shape
 pub different : (i j : ℕ) → i < 95 → j < 95 → shapeAt i ≡ shapeAt j → i ≡ j
-different i j h k e =
-    let l = shapes 95 (drop 289 table) in
-    let n = length-shapes 95 (drop 289 table) in
-    places l all-different i j (omega arith) (omega arith) (drawn i h ∙ e ∙ sym (drawn j k))
+different i j h k e = one-place i j h k e (eqb i j) refl
+  where
+    one-place : (i j : ℕ) → i < 95 → j < 95 → shapeAt i ≡ shapeAt j → (t : Bool) → eqb i j ≡ t → i ≡ j
+    one-place i j h k e true q = eqb-true i j q
+    one-place i j h k e false q =
+        let a = apart i j h k (eqb-false i j q) in
+        let z : distance (shapeAt i) (shapeAt j) ≡ 0 = rw (e, no-distance (shapeAt j)) in
+        absurd (omega (arith, a, z))
+
+-- E is 14 pixels from a blank shape: 4, 1, 3, 1, 1 and 4, a row each
+black-in-E : distance 0 (shapeAt 37) ≡ 14
+unfolding table bitsAt fiveBytes differing fromLast
+black-in-E = refl
 
 -- ---- only character 32 is blank
 

@@ -1,7 +1,9 @@
--- The shapes of the built-in font's glyphs, each as one number.
+-- The shapes of the built-in font's glyphs, each as one number, and in how many pixels two of them differ.
 -- Assumes nothing.
+use mathlib.Core.Bool.{cond}
 use mathlib.Core.List.{List}
-use Prim.Native.Nat.{ℕ, _+_, _*_, _/_, _%_}
+use Prim.Native.Nat.{ℕ, zero, suc, _+_, _-_, _*_, _/_, _%_, _^_}
+use lib.Dec.{eqb}
 use lib.ListN.{getD, drop}
 use Rattle.builtin_font.specs.Table.{table}
 
@@ -9,7 +11,7 @@ use Rattle.builtin_font.specs.Table.{table}
 unfoldable pub fiveBytes : List ℕ → ℕ
 fiveBytes l = 4294967296 * getD l 0 0 + 16777216 * getD l 1 0 + 65536 * getD l 2 0 + 256 * getD l 3 0 + getD l 4 0
 
--- the 40 bits of glyph number k, at 289 + 5k: its 35 dots row after row, and the five bits behind them
+-- the 40 bits of glyph number k, at 289 + 5k: its 35 pixels row after row, and the five bits behind them
 unfoldable pub bitsAt : ℕ → ℕ
 bitsAt k = fiveBytes (drop (289 + 5 * k) table)
 
@@ -18,3 +20,26 @@ shapeAt k = bitsAt k / 32
 
 abbrev pub spareAt : ℕ → ℕ
 spareAt k = bitsAt k % 32
+
+-- digit d is character 48 + d
+abbrev pub digitShape : ℕ → ℕ
+digitShape d = shapeAt (16 + d)
+
+-- pixel number n of a shape, counted from the last; 1 is black
+unfoldable pub fromLast : ℕ → ℕ → ℕ
+fromLast s n = s / 2 ^ n % 2
+
+abbrev pub pixelOf : ℕ → ℕ → ℕ → ℕ
+pixelOf s x y = fromLast s (34 - (5 * y + x))
+
+-- 1 for two pixels that differ
+abbrev pub unlike : ℕ → ℕ → ℕ
+unlike p q = cond (eqb p q) 0 1
+
+-- in how many of their last n pixels two shapes differ
+unfoldable pub differing : ℕ → ℕ → ℕ → ℕ
+differing zero a b = 0
+differing (suc n) a b = unlike (fromLast a n) (fromLast b n) + differing n a b
+
+abbrev pub distance : ℕ → ℕ → ℕ
+distance a b = differing 35 a b
