@@ -10,7 +10,6 @@ use lib.ListN.{length, getD, take, drop, set, length-append, drop-of-length-le}
 use lib.Seq.{sets, length-sets, take-suc, drop-cons}
 use borrow.Author.Tests.{eq-eqb, ne-eqb, lt-ltb, le-ltb}
 use Rattle.pixels.specs.Framebuffer.{height}
-use Rattle.state.specs.Soundness.{soundPhase}
 use Rattle.rules.specs.World.{World, port}
 use Rattle.rules.specs.Step.{step, replies, outcome}
 use Rattle.rules.specs.Calls.{run, said, taken}
@@ -75,13 +74,10 @@ feeding-start w p r k =
     let z : taken w (length r) p ≡ 0 + taken w (length r) p = omega arith in
     record { kept = k; within = omega arith; next = refl; sent = refl; long = refl; room = omega arith; left = z ∙ ap (λ (m : ℕ). 0 + taken w m p) (sym n) }
 
--- the framebuffer is as high as a kept world's is, and its phase is sound
+-- the framebuffer is as high as a kept world's is
 pub tall : (w : World) → Kept w → height (w .framebuffer) ≡ 64
 unfolding height
 tall w k = omega (arith, k .framebuffer)
-
-pub phase-sound : (w : World) → Kept w → soundPhase (port w .phase) ≡ true
-phase-sound w k = parts (k .good) .port-good .phase .sound
 
 pub room-known : {w₀ w : World} {p r₀ r : List ℕ} {at i : ℕ} → Feeding w₀ p r₀ w r at i → (length r ≡ length r₀) × (at ≤ length r)
 room-known {w₀ = w₀} {p = p} {r₀ = r₀} {r = r} {i = i} f =

@@ -4,7 +4,6 @@ use mathlib.Core.Path.{_≡_}
 use mathlib.Core.Bool.{true, false}
 use mathlib.Core.List.{List, []}
 use Prim.Native.Nat.{ℕ, _+_, _*_}
-use Rattle.pixels.specs.Framebuffer.{height}
 use Rattle.state.specs.declared.Command.{Command}
 use Rattle.state.specs.declared.Command.the-variants.{Unknown, Clear, Home, SetPoint, SetPlace, WrapOn, WrapOff, ScrollOn, ScrollOff, ChooseFont, SetMetrics, SetColour, DrawPixel, DrawLine, ContinueLine, DrawFrame, FillRectangle, SetUpBar, WriteBar, SetUpStrip, ShiftStrip, ShowBitmap, DrawInline, UploadFont, UploadBitmap, DeleteFile, Purge, FlowOn, FlowOff, SetContrast, BacklightOn, BacklightOff, SetSerial}
 use Rattle.state.specs.declared.State.{State}
@@ -17,34 +16,34 @@ use Rattle.rules.specs.Files.{beginUpload, deleteFile, purge}
 use Rattle.rules.specs.Settings.{flowOn, flowOff, setContrast, backlightOn, backlightOff, setSerial}
 use Rattle.rules.specs.Step.{obey}
 use Rattle.outcome.specs.declared.Outcome.{Outcome}
-use Rattle.outcome.specs.Outcome.{sentBy}
-use Rattle.outcome.specs.Contract.{Came, Sets, SetsOn, Paints, Stores, StoresOn, Shows, ShowsOn}
+use Rattle.outcome.specs.Contract.{Sets, SetsOn, Paints, Stores, StoresOn, AltersOn, Shows, ShowsOn}
 
 -- ---- from a function to any rule that says the same
 
-module _ {rule : World → Ruled} {st : State} {r : Outcome} (o : Ruled) (g s : List ℕ) where
-  pub by-sets : Sets rule st r → o ≡ rule (world g s st) → Came (world g s st) o (world g s (r .state)) (sentBy (r .reply))
-  by-sets p e = rw e (p .came g s)
+module _ {rule : World → Ruled} {st : State} {r : Outcome} {h : ℕ} (of : World → Ruled) (g s : List ℕ) where
+  pub by-sets : Sets rule st r → of (world g s st) ≡ rule (world g s st) → AltersOn h of st g g s s r
+  by-sets p e = record { came = λ t. rw e (p .came g s) }
 
-  pub by-sets-on : {h : ℕ} → SetsOn h rule st r → height g ≡ h → o ≡ rule (world g s st) → Came (world g s st) o (world g s (r .state)) (sentBy (r .reply))
-  by-sets-on p t e = rw e (p .came g s t)
+  pub by-sets-on : SetsOn h rule st r → of (world g s st) ≡ rule (world g s st) → AltersOn h of st g g s s r
+  by-sets-on p e = record { came = λ t. rw e (p .came g s t) }
 
-  pub by-paints : {g' : List ℕ} → Paints rule st g g' r → o ≡ rule (world g s st) → Came (world g s st) o (world g' s (r .state)) (sentBy (r .reply))
-  by-paints p e = rw e (p .came s)
+  pub by-paints : {g' : List ℕ} → Paints rule st g g' r → of (world g s st) ≡ rule (world g s st) → AltersOn h of st g g' s s r
+  by-paints p e = record { came = λ t. rw e (p .came s) }
 
-  pub by-stores : {s' : List ℕ} → Stores rule st s s' r → o ≡ rule (world g s st) → Came (world g s st) o (world g s' (r .state)) (sentBy (r .reply))
-  by-stores p e = rw e (p .came g)
+  pub by-stores : {s' : List ℕ} → Stores rule st s s' r → of (world g s st) ≡ rule (world g s st) → AltersOn h of st g g s s' r
+  by-stores p e = record { came = λ t. rw e (p .came g) }
 
-  pub by-stores-on : {h : ℕ} {s' : List ℕ} → StoresOn h rule st s s' r → height g ≡ h → o ≡ rule (world g s st)
-      → Came (world g s st) o (world g s' (r .state)) (sentBy (r .reply))
-  by-stores-on p t e = rw e (p .came g t)
+  pub by-stores-on : {s' : List ℕ} → StoresOn h rule st s s' r → of (world g s st) ≡ rule (world g s st) → AltersOn h of st g g s s' r
+  by-stores-on p e = record { came = λ t. rw e (p .came g t) }
 
-  pub by-shows : {g' : List ℕ} → Shows rule st g g' s r → o ≡ rule (world g s st) → Came (world g s st) o (world g' s (r .state)) (sentBy (r .reply))
-  by-shows p e = rw e (p .came)
+  pub by-shows : {g' : List ℕ} → Shows rule st g g' s r → of (world g s st) ≡ rule (world g s st) → AltersOn h of st g g' s s r
+  by-shows p e = record { came = λ t. rw e (p .came) }
 
-  pub by-shows-on : {h : ℕ} {g' : List ℕ} → ShowsOn h rule st g g' s r → height g ≡ h → o ≡ rule (world g s st)
-      → Came (world g s st) o (world g' s (r .state)) (sentBy (r .reply))
-  by-shows-on p t e = rw e (p .came t)
+  pub by-shows-on : {g' : List ℕ} → ShowsOn h rule st g g' s r → of (world g s st) ≡ rule (world g s st) → AltersOn h of st g g' s s r
+  by-shows-on p e = record { came = λ t. rw e (p .came t) }
+
+  pub by-alters : {g' s' : List ℕ} → AltersOn h rule st g g' s s' r → of (world g s st) ≡ rule (world g s st) → AltersOn h of st g g' s s' r
+  by-alters p e = record { came = λ t. rw e (p .came t) }
 
 -- ---- the commands
 

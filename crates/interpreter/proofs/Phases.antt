@@ -1,14 +1,18 @@
 -- The phases, each way by itself.
 -- Assumes nothing.
 use mathlib.Core.Path.{_≡_, _∙_, refl, sym, ap, subst}
-use mathlib.Core.Bool.{Bool, true, false, not}
+use mathlib.Core.Bool.{Bool, true, false, _&&_}
 use mathlib.Core.List.{List, []}
 use native.Mathlib.Omega.{arith}
 use Prim.Native.Nat.{ℕ, _+_, _<_, _≤_}
-use lib.Dec.{eqb, ltb, lit≤}
-use lib.ListN.{set}
-use borrow.Author.Tests.{eq-eqb, ne-eqb, lt-ltb, le-ltb, ltb-true}
-use Rattle.directory.specs.Directory.{entries, hasFile}
+use lib.Dec.{eqb}
+use lib.ListN.{length, set}
+use lib.Seq.{set-out}
+use borrow.Author.Tests.{eq-eqb, ne-eqb, eqb-true, lt-ltb, le-ltb}
+use Rattle.directory.specs.declared.Found.{Found}
+use Rattle.directory.specs.declared.Found.the-variants.{At, Nothing}
+use Rattle.directory.specs.Directory.{findOf}
+use Rattle.file_laws.proofs.Written.{and-both}
 use Rattle.state.specs.declared.Command.{Command}
 use Rattle.state.specs.declared.Command.the-variants.{Unknown, Clear, Home, SetPoint, SetPlace, WrapOn, WrapOff, ScrollOn, ScrollOff, ChooseFont, SetMetrics, SetColour, DrawPixel, DrawLine, ContinueLine, DrawFrame, FillRectangle, SetUpBar, WriteBar, SetUpStrip, ShiftStrip, ShowBitmap, DrawInline, UploadFont, UploadBitmap, DeleteFile, Purge, FlowOn, FlowOff, SetContrast, BacklightOn, BacklightOff, SetSerial}
 use Rattle.state.specs.declared.Phase.{Phase}
@@ -16,27 +20,16 @@ use Rattle.state.specs.declared.Phase.the-variants.{Idle, Prefix, Gathering, In
 use Rattle.state.specs.declared.State.{State}
 use Rattle.state.specs.State.{noArgs}
 use Rattle.state.specs.Commands.{commandOf, argumentsOf}
-use Rattle.state.specs.Soundness.{soundGathering, soundInline, soundPhase}
 use Rattle.rules.specs.World.{World, world, port, done, quietly, refused, Outcome as Ruled}
 use Rattle.rules.specs.Text.{character}
 use Rattle.rules.specs.Pictures.{inlineData}
 use Rattle.rules.specs.Files.{uploadData}
 use Rattle.rules.specs.Step.{obey, outside, code, argument, alone, byPhase, outcome, after, refuse}
-use Rattle.outcome.specs.Outcome.{inPhaseOf}
-use Rattle.outcome.specs.Contract.{Came}
-use Rattle.interpreter.specs.Gathering.{gatheringOf, noBitmapOf}
-
--- ---- a saved bitmap's number
-
-module _ (s : List ℕ) (c g b : ℕ) where
-  pub other-code : (c ≡ 98 → ⊥) → false ≡ noBitmapOf s c g b
-  other-code h = rw (ne-eqb c 98 h)
-
-  pub later-argument : c ≡ 98 → (g ≡ 0 → ⊥) → false ≡ noBitmapOf s c g b
-  later-argument e h = rw (eq-eqb c 98 e, ne-eqb g 0 h)
-
-  pub its-number : (t : Bool) → c ≡ 98 → g ≡ 0 → t ≡ hasFile (entries s) 2 b → not t ≡ noBitmapOf s c g b
-  its-number t e h f = rw (eq-eqb c 98 e, eq-eqb g 0 h, f)
+use Rattle.outcome.specs.declared.Outcome.{Outcome}
+use Rattle.outcome.specs.Outcome.{inPhaseOf, sentBy}
+use Rattle.outcome.specs.Contract.{Came, AltersOn, ShowsOn}
+use Rattle.storage.proofs.Laws.{stored-not, stored-yes}
+use Rattle.interpreter.specs.Gathering.{gatheringOf}
 
 -- ---- outside a command
 
@@ -44,9 +37,13 @@ pub alone-prefix : (g s : List ℕ) (st : State) (b : ℕ) → b ≡ 254 → alo
 unfolding alone
 alone-prefix g s st b e = rw (eq-eqb b 254 e)
 
-pub alone-character : (w : World) (b : ℕ) → (b ≡ 254 → ⊥) → alone w b ≡ character w b
+alone-character : (w : World) (b : ℕ) → (b ≡ 254 → ⊥) → alone w b ≡ character w b
 unfolding alone
 alone-character w b h = rw (ne-eqb b 254 h)
+
+pub character-shown : {h : ℕ} {g g' s : List ℕ} {st : State} {r : Outcome} (b : ℕ) → (b ≡ 254 → ⊥) → ShowsOn h (λ w. character w b) st g g' s r
+    → ShowsOn h (λ w. alone w b) st g g' s r
+character-shown b n p = record { came = λ t. rw (alone-character _ b n) (p .came t) }
 
 -- ---- a command under way: its world is outside it, and a refusal ends it either way
 
@@ -58,8 +55,16 @@ after-outside w (refused n l) = refl
 came-outside : (w : World) (o : Ruled) (v : World) (l : List ℕ) → Came (outside w) o v l → Came w o v l
 came-outside w o v l p = record { next = p .next ∙ after-outside w o; sends = p .sends }
 
-pub came-as : {w : World} {o q : Ruled} {v : World} {l : List ℕ} → o ≡ q → Came w q v l → Came w o v l
-came-as e p = rw e p
+-- a command obeyed there is what the byte comes to
+obeyed-there : {h : ℕ} (of : World → Ruled) (c : Command) (a g g' s s' : List ℕ) (st out : State) (r : Outcome) → out ≡ inPhaseOf st Idle
+    → of (world g s st) ≡ obey c a (outside (world g s st)) → AltersOn h (obey c a) out g g' s s' r → AltersOn h of st g g' s s' r
+obeyed-there of c a g g' s s' st out r d e p =
+    record {
+      came = λ t.
+          let q : Came (outside (world g s st)) (obey c a (outside (world g s st))) (world g' s' (r .state)) (sentBy (r .reply)) =
+          subst (λ (x : State). Came (world g s x) (obey c a (world g s x)) (world g' s' (r .state)) (sentBy (r .reply))) d (p .came t) in
+          rw e (came-outside (world g s st) _ _ _ q);
+    }
 
 obey-nothing : (c : Command) (w : World) → obey c noArgs w ≡ obey c [] w
 unfolding obey
@@ -97,41 +102,6 @@ obey-nothing BacklightOn w = refl
 obey-nothing BacklightOff w = refl
 obey-nothing SetSerial w = refl
 
-pub few : (c : Command) → argumentsOf c ≤ 6
-few Unknown = lit≤ tt
-few Clear = lit≤ tt
-few Home = lit≤ tt
-few SetPoint = lit≤ tt
-few SetPlace = lit≤ tt
-few WrapOn = lit≤ tt
-few WrapOff = lit≤ tt
-few ScrollOn = lit≤ tt
-few ScrollOff = lit≤ tt
-few ChooseFont = lit≤ tt
-few SetMetrics = lit≤ tt
-few SetColour = lit≤ tt
-few DrawPixel = lit≤ tt
-few DrawLine = lit≤ tt
-few ContinueLine = lit≤ tt
-few DrawFrame = lit≤ tt
-few FillRectangle = lit≤ tt
-few SetUpBar = lit≤ tt
-few WriteBar = lit≤ tt
-few SetUpStrip = lit≤ tt
-few ShiftStrip = lit≤ tt
-few ShowBitmap = lit≤ tt
-few DrawInline = lit≤ tt
-few UploadFont = lit≤ tt
-few UploadBitmap = lit≤ tt
-few DeleteFile = lit≤ tt
-few Purge = lit≤ tt
-few FlowOn = lit≤ tt
-few FlowOff = lit≤ tt
-few SetContrast = lit≤ tt
-few BacklightOn = lit≤ tt
-few BacklightOff = lit≤ tt
-few SetSerial = lit≤ tt
-
 module _ (g s : List ℕ) (st : State) (b : ℕ) (c : Command) (n : ℕ) (named : c ≡ commandOf b) (counted : n ≡ argumentsOf c) where
   pub code-gathers : (n ≡ 0 → ⊥) → code (world g s st) b ≡ quietly (world g s (inPhaseOf st (Gathering b 0)))
   unfolding code
@@ -141,36 +111,54 @@ module _ (g s : List ℕ) (st : State) (b : ℕ) (c : Command) (n : ℕ) (named 
   unfolding code
   obeyed e = rw (← named, ← counted, eq-eqb n 0 e)
 
-  pub code-obeyed : (out : State) (v : World) (l : List ℕ) → n ≡ 0 → out ≡ inPhaseOf st Idle → Came (world g s out) (obey c noArgs (world g s out)) v l
-      → Came (world g s st) (code (world g s st) b) v l
-  code-obeyed out v l e d p =
-      let q : Came (outside (world g s st)) (obey c noArgs (outside (world g s st))) v l =
-      subst (λ (t : State). Came (world g s t) (obey c noArgs (world g s t)) v l) d p in
-      came-as (obeyed e ∙ sym (obey-nothing c (outside (world g s st)))) (came-outside (world g s st) _ v l q)
+  pub code-obeyed : {h : ℕ} (g' s' : List ℕ) (out : State) (r : Outcome) → n ≡ 0 → out ≡ inPhaseOf st Idle → AltersOn h (obey c noArgs) out g g' s s' r
+      → AltersOn h (λ w. code w b) st g g' s s' r
+  code-obeyed g' s' out r e d p =
+      obeyed-there (λ w. code w b) c noArgs g g' s s' st out r d (obeyed e ∙ sym (obey-nothing c (outside (world g s st)))) p
 
-module _ (g s : List ℕ) (st : State) (k i b : ℕ) where
-  pub argument-22 : (t : Bool) → t ≡ noBitmapOf s k i b → t ≡ true → argument (world g s st) k i b ≡ refused 22 []
+-- ---- arguments
+
+-- no place is left for one more
+pub no-place : (l : List ℕ) (i b : ℕ) → length l ≡ 6 → 6 ≤ i → l ≡ set l i b
+no-place l i b e h = sym (set-out l i b (omega arith))
+
+pub other-code : (k i : ℕ) → (k ≡ 98 → ⊥) → false ≡ (eqb k 98 && eqb i 0)
+other-code k i h = rw (ne-eqb k 98 h)
+
+pub its-code : (k i : ℕ) → k ≡ 98 → eqb i 0 ≡ (eqb k 98 && eqb i 0)
+its-code k i e = rw (eq-eqb k 98 e)
+
+-- ---- a saved bitmap's number
+
+module _ (g s : List ℕ) (st : State) (b : ℕ) (f : Found) (sought : f ≡ findOf s 2 b) where
+  pub bitmap-22 : f ≡ Nothing → argument (world g s st) 98 0 b ≡ refused 22 []
   unfolding argument
-  argument-22 t e h = rw (← e, h)
+  bitmap-22 e = rw (← stored-not s 2 b f sought e)
 
-  module _ (t : Bool) (c : Command) (n : ℕ) (a : List ℕ) (tested : t ≡ noBitmapOf s k i b) (fine : t ≡ false) (named : c ≡ commandOf k) (counted : n ≡ argumentsOf c)
-      (kept : a ≡ set (st .port .args) i b) where
-    pub argument-kept : i + 1 < n → argument (world g s st) k i b ≡ quietly (world g s (gatheringOf st k (i + 1) a))
-    unfolding argument
-    argument-kept h = rw (← tested, fine, ← named, ← counted, lt-ltb (i + 1) n h, kept)
+  pub bitmap-found : (p a z : ℕ) (args : List ℕ) → f ≡ At p a z → args ≡ set (st .port .args) 0 b
+      → argument (world g s st) 98 0 b ≡ quietly (world g s (gatheringOf st 98 1 args))
+  unfolding argument commandOf
+  bitmap-found p a z args e k = rw (← stored-yes s 2 b p a z f sought e, k)
 
-    last : n ≤ i + 1 → argument (world g s st) k i b ≡ obey c a (outside (world g s st))
-    unfolding argument
-    last h = rw (← tested, fine, ← named, ← counted, le-ltb (i + 1) n h, kept)
+-- ---- other arguments
 
-    pub argument-obeyed : (out : State) (v : World) (l : List ℕ) → n ≤ i + 1 → out ≡ inPhaseOf st Idle → Came (world g s out) (obey c a (world g s out)) v l
-        → Came (world g s st) (argument (world g s st) k i b) v l
-    argument-obeyed out v l h d p =
-        let q : Came (outside (world g s st)) (obey c a (outside (world g s st))) v l = subst (λ (t : State). Came (world g s t) (obey c a (world g s t)) v l) d p in
-        came-as (last h) (came-outside (world g s st) _ v l q)
+pub bitmap-is : (w : World) (k i b : ℕ) (t : Bool) → t ≡ (eqb k 98 && eqb i 0) → t ≡ true → argument w k i b ≡ argument w 98 0 b
+bitmap-is w k i b t e h =
+    let p = and-both (eqb k 98) (eqb i 0) (sym e ∙ h) in rw (eqb-true k 98 (p .0), eqb-true i 0 (p .1))
 
-pub gathering-few : (k i : ℕ) → soundGathering k i ≡ true → i < 6
-gathering-few k i e = omega (arith, ltb-true i (argumentsOf (commandOf k)) e, few (commandOf k))
+module _ (g s : List ℕ) (st : State) (k i b : ℕ) (t : Bool) (c : Command) (n : ℕ) (a : List ℕ) (tested : t ≡ (eqb k 98 && eqb i 0)) (other : t ≡ false)
+    (named : c ≡ commandOf k) (counted : n ≡ argumentsOf c) (kept : a ≡ set (st .port .args) i b) where
+  pub argument-kept : i + 1 < n → argument (world g s st) k i b ≡ quietly (world g s (gatheringOf st k (i + 1) a))
+  unfolding argument
+  argument-kept h = rw (← tested, other, ← named, ← counted, lt-ltb (i + 1) n h, kept)
+
+  last : n ≤ i + 1 → argument (world g s st) k i b ≡ obey c a (outside (world g s st))
+  unfolding argument
+  last h = rw (← tested, other, ← named, ← counted, le-ltb (i + 1) n h, kept)
+
+  pub argument-obeyed : {h : ℕ} (g' s' : List ℕ) (out : State) (r : Outcome) → n ≤ i + 1 → out ≡ inPhaseOf st Idle → AltersOn h (obey c a) out g g' s s' r
+      → AltersOn h (λ w. argument w k i b) st g g' s s' r
+  argument-obeyed g' s' out r l d p = obeyed-there (λ w. argument w k i b) c a g g' s s' st out r d (last l) p
 
 -- ---- the phase
 
@@ -197,18 +185,3 @@ module _ (w : World) (b : ℕ) where
   pub in-upload : (k n z i : ℕ) (v : Bool) (c : ℕ) → port w .phase ≡ Upload k n z i v c → outcome w b ≡ uploadData w k n z i v c b
   unfolding byPhase
   in-upload k n z i v c e = in-phase-of (Upload k n z i v c) e
-
-sound-in : (f p : Phase) → f ≡ p → soundPhase f ≡ true → soundPhase p ≡ true
-sound-in f p e h = sym (ap soundPhase e) ∙ h
-
-pub sound-gathering : (f : Phase) (c g : ℕ) → f ≡ Gathering c g → soundPhase f ≡ true → soundGathering c g ≡ true
-unfolding soundPhase
-sound-gathering f c g e h = sound-in f (Gathering c g) e h
-
-pub sound-inline : (f : Phase) (x1 y1 x2 y2 d : ℕ) → f ≡ Inline x1 y1 x2 y2 d → soundPhase f ≡ true → soundInline x1 y1 x2 y2 d ≡ true
-unfolding soundPhase
-sound-inline f x1 y1 x2 y2 d e h = sound-in f (Inline x1 y1 x2 y2 d) e h
-
-pub sound-upload : (f : Phase) (k n z i : ℕ) (w : Bool) (b : ℕ) → f ≡ Upload k n z i w b → soundPhase f ≡ true → i < z
-unfolding soundPhase
-sound-upload f k n z i w b e h = ltb-true i z (sound-in f (Upload k n z i w b) e h)

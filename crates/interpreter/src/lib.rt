@@ -1,6 +1,8 @@
 // One byte: what it comes to in each phase, and every command obeyed.
 use directory::BITMAP;
 use directory::FONT;
+use directory::Found;
+use directory::find;
 use outcome::Outcome;
 use outcome::done;
 use outcome::in_phase;
@@ -15,17 +17,14 @@ use state::Port;
 use state::State;
 use state::arguments_of;
 use state::command_of;
-use storage::is_stored;
 ghost use mathlib.Core.Path.{_≡_};
-ghost use mathlib.Core.Bool.{true};
-ghost use Prim.Native.Nat.{_+_, _*_, _<_};
+ghost use mathlib.Core.Bool.{_&&_};
+ghost use Prim.Native.Nat.{_+_, _*_};
+ghost use lib.Dec.{eqb};
 ghost use lib.ListN.{set};
-ghost use Rattle.state.specs.Soundness.{soundPhase, soundGathering};
-ghost use Rattle.rules.specs.World.{world};
 ghost use Rattle.rules.specs.Step.{obey, code, argument, alone, outcome};
-ghost use Rattle.outcome.specs.Outcome.{sentBy};
-ghost use Rattle.outcome.specs.Contract.{Came};
-ghost use Rattle.interpreter.specs.Gathering.{Tall, gatheringOf, noBitmapOf};
+ghost use Rattle.outcome.specs.Contract.{Stores, AltersOn, ShowsOn};
+ghost use Rattle.interpreter.specs.Gathering.{gatheringOf};
 
 // The byte that begins a command.
 const PREFIX: u8 = 254;
@@ -49,8 +48,7 @@ fn obey(
     state: State,
     height: u8,
 ) -> Outcome
-    requires { ⌜ Tall (now framebuffer) height ⌝ }
-    ensures { λ r. ⌜ Came (world (now (framebuffer .entry)) (now (store .entry)) state) (obey command a (world (now (framebuffer .entry)) (now (store .entry)) state)) (world (now (framebuffer .exit)) (now (store .exit)) (r .state)) (sentBy (r .reply)) ⌝ }
+    ensures { λ r. ⌜ AltersOn height (obey command a) state (now (framebuffer .entry)) (now (framebuffer .exit)) (now (store .entry)) (now (store .exit)) r ⌝ }
 {
     match command {
         Command::Unknown => refused(state, UNKNOWN_COMMAND),
@@ -108,8 +106,7 @@ fn take_code(
     height: u8,
     byte: u8,
 ) -> Outcome
-    requires { ⌜ Tall (now framebuffer) height ⌝ }
-    ensures { λ r. ⌜ Came (world (now (framebuffer .entry)) (now (store .entry)) state) (code (world (now (framebuffer .entry)) (now (store .entry)) state) byte) (world (now (framebuffer .exit)) (now (store .exit)) (r .state)) (sentBy (r .reply)) ⌝ }
+    ensures { λ r. ⌜ AltersOn height (λ w. code w byte) state (now (framebuffer .entry)) (now (framebuffer .exit)) (now (store .entry)) (now (store .exit)) r ⌝ }
 {
     let command = command_of(byte);
     if arguments_of(command) == 0 {
@@ -119,26 +116,15 @@ fn take_code(
     done(in_phase(state, Phase::Gathering { code: byte, got: 0 }))
 }
 
-// Whether it is a saved bitmap's number that the directory does not have.
-fn is_no_bitmap(store: &[u8], code: u8, got: u8, byte: u8) -> bool
-    ensures { λ r. ⌜ r ≡ noBitmapOf (now (store .entry)) code got byte ⌝ }
-{
-    if code != SHOW_BITMAP {
-        return false;
-    }
-    if got != 0 {
-        return false;
-    }
-    !is_stored(store, BITMAP, byte)
-}
-
-// The arguments with one more.
+// The arguments with one more, as far as there is a place for it.
 fn gathered(state: State, got: u8, byte: u8) -> [u8; ARGUMENTS]
-    requires { ⌜ got < 6 ⌝ }
     ensures { λ r. ⌜ r ≡ set (state .port .args) got byte ⌝ }
 {
     let mut args = state.port.args;
     let i = got as usize;
+    if i >= ARGUMENTS {
+        return args;
+    }
     args[i] = byte;
     args
 }
@@ -164,6 +150,32 @@ fn gathering(state: State, code: u8, got: u8, args: [u8; ARGUMENTS]) -> State
     with_port(state, port)
 }
 
+// Whether a saved bitmap's number is due.
+fn is_bitmap_due(code: u8, got: u8) -> bool
+    ensures { λ r. ⌜ r ≡ (eqb code 98 && eqb got 0) ⌝ }
+{
+    if code != SHOW_BITMAP {
+        return false;
+    }
+    got == 0
+}
+
+// A saved bitmap's number: one that the directory does not have ends the command.
+fn take_bitmap(store: &[u8], state: State, byte: u8) -> Outcome
+    ensures { λ r. ⌜ Stores (λ w. argument w 98 0 byte) state (now (store .entry)) (now (store .entry)) r ⌝ }
+{
+    let found = find(store, BITMAP, byte);
+    let Found::At {
+        record: _,
+        start: _,
+        size: _,
+    } = found
+    else {
+        return refused(state, NO_SUCH_FILE);
+    };
+    done(gathering(state, SHOW_BITMAP, 1, gathered(state, 0, byte)))
+}
+
 // An argument: the last one has its command obeyed.
 fn take_argument(
     framebuffer: &mut [u8],
@@ -174,15 +186,14 @@ fn take_argument(
     got: u8,
     byte: u8,
 ) -> Outcome
-    requires { ⌜ (Tall (now framebuffer) height) × (soundGathering code got ≡ true) ⌝ }
-    ensures { λ r. ⌜ Came (world (now (framebuffer .entry)) (now (store .entry)) state) (argument (world (now (framebuffer .entry)) (now (store .entry)) state) code got byte) (world (now (framebuffer .exit)) (now (store .exit)) (r .state)) (sentBy (r .reply)) ⌝ }
+    ensures { λ r. ⌜ AltersOn height (λ w. argument w code got byte) state (now (framebuffer .entry)) (now (framebuffer .exit)) (now (store .entry)) (now (store .exit)) r ⌝ }
 {
-    if is_no_bitmap(store, code, got, byte) {
-        return refused(state, NO_SUCH_FILE);
+    if is_bitmap_due(code, got) {
+        return take_bitmap(store, state, byte);
     }
     let command = command_of(code);
     let args = gathered(state, got, byte);
-    if got + 1 < arguments_of(command) {
+    if got as u16 + 1 < arguments_of(command) as u16 {
         return done(gathering(state, code, got + 1, args));
     }
     let outside = in_phase(state, Phase::Idle);
@@ -191,8 +202,7 @@ fn take_argument(
 
 // Outside a command 254 begins one, and any other byte is a character.
 fn take_alone(framebuffer: &mut [u8], store: &[u8], state: State, height: u8, byte: u8) -> Outcome
-    requires { ⌜ Tall (now framebuffer) height ⌝ }
-    ensures { λ r. ⌜ Came (world (now (framebuffer .entry)) (now (store .entry)) state) (alone (world (now (framebuffer .entry)) (now (store .entry)) state) byte) (world (now (framebuffer .exit)) (now (store .entry)) (r .state)) (sentBy (r .reply)) ⌝ }
+    ensures { λ r. ⌜ ShowsOn height (λ w. alone w byte) state (now (framebuffer .entry)) (now (framebuffer .exit)) (now (store .entry)) r ⌝ }
 {
     if byte == PREFIX {
         return done(in_phase(state, Phase::Prefix));
@@ -202,8 +212,7 @@ fn take_alone(framebuffer: &mut [u8], store: &[u8], state: State, height: u8, by
 
 // A byte of the stream.
 pub fn step(framebuffer: &mut [u8], store: &mut [u8], state: State, height: u8, byte: u8) -> Outcome
-    requires { ⌜ (Tall (now framebuffer) height) × (soundPhase (state .port .phase) ≡ true) ⌝ }
-    ensures { λ r. ⌜ Came (world (now (framebuffer .entry)) (now (store .entry)) state) (outcome (world (now (framebuffer .entry)) (now (store .entry)) state) byte) (world (now (framebuffer .exit)) (now (store .exit)) (r .state)) (sentBy (r .reply)) ⌝ }
+    ensures { λ r. ⌜ AltersOn height (λ w. outcome w byte) state (now (framebuffer .entry)) (now (framebuffer .exit)) (now (store .entry)) (now (store .exit)) r ⌝ }
 {
     let port = state.port;
     let phase = port.phase;

@@ -13,7 +13,7 @@ use Rattle.rules.specs.Step.{refusals, after, sent, refuse}
 use Rattle.outcome.specs.declared.Outcome.{Outcome}
 use Rattle.outcome.specs.declared.Reply.{Reply}
 use Rattle.outcome.specs.Outcome.{sentBy, inPhaseOf, withPortOf, putTextOf, refusedState, refusedOf, doneOf, sendingOf, oneByte, twoBytes}
-use Rattle.outcome.specs.Contract.{Came, Sets, SetsOn, Paints, PaintsOn, Stores, StoresOn, Shows, ShowsOn}
+use Rattle.outcome.specs.Contract.{Came, Sets, SetsOn, Paints, PaintsOn, Stores, StoresOn, AltersOn, Shows, ShowsOn}
 
 pub refuse-is : (s t v : State) (n c : ℕ) → t ≡ inPhaseOf s Idle → c ≡ (s .port .refusals .count + 1) % 65536
     → v ≡ withPortOf s (withRefusals (t .port) (refusals c n)) → v ≡ refusedState s n
@@ -116,6 +116,18 @@ shows-refused n f e = record { came = came-refused _ _ _ _ n _ e f }
 pub shows-on-refused : (n : ℕ) {h : ℕ} {rule : World → Ruled} {st : State} {g s : List ℕ} {r : Outcome} → r ≡ refusedOf st n
     → (height g ≡ h → rule (world g s st) ≡ refused n []) → ShowsOn h rule st g g s r
 shows-on-refused n f e = record { came = λ t. came-refused _ _ _ _ n _ (e t) f }
+
+pub shows-on-done : {h : ℕ} {rule : World → Ruled} {st : State} {g g' s : List ℕ} {r : Outcome} (st' : State) → r ≡ doneOf st'
+    → (height g ≡ h → rule (world g s st) ≡ quietly (world g' s st')) → ShowsOn h rule st g g' s r
+shows-on-done st' f e = record { came = λ t. came-done _ _ _ st' _ _ (e t) f }
+
+pub alters-refused : (n : ℕ) {h : ℕ} {rule : World → Ruled} {st : State} {g s : List ℕ} {r : Outcome} → r ≡ refusedOf st n
+    → rule (world g s st) ≡ refused n [] → AltersOn h rule st g g s s r
+alters-refused n f e = record { came = λ t. came-refused _ _ _ _ n _ e f }
+
+pub alters-done : {h : ℕ} {rule : World → Ruled} {st : State} {g g' s s' : List ℕ} {r : Outcome} (st' : State) → r ≡ doneOf st'
+    → rule (world g s st) ≡ quietly (world g' s' st') → AltersOn h rule st g g' s s' r
+alters-done st' f e = record { came = λ t. came-done _ _ _ st' _ _ e f }
 
 -- ---- an outcome made of a state that a call made
 

@@ -39,6 +39,10 @@ pub record Stores (rule : World → Ruled) (st : State) (s s' : List ℕ) (r : O
 pub record StoresOn (h : ℕ) (rule : World → Ruled) (st : State) (s s' : List ℕ) (r : Outcome) : Type 0 where
   pub came : (g : List ℕ) → height g ≡ h → Came (world g s st) (rule (world g s st)) (world g s' (r .state)) (sentBy (r .reply))
 
+-- lent both, and told the framebuffer's height
+pub record AltersOn (h : ℕ) (rule : World → Ruled) (st : State) (g g' s s' : List ℕ) (r : Outcome) : Type 0 where
+  pub came : height g ≡ h → Came (world g s st) (rule (world g s st)) (world g' s' (r .state)) (sentBy (r .reply))
+
 -- lent the framebuffer, and the store to read
 pub record Shows (rule : World → Ruled) (st : State) (g g' s : List ℕ) (r : Outcome) : Type 0 where
   pub came : Came (world g s st) (rule (world g s st)) (world g' s (r .state)) (sentBy (r .reply))

@@ -1,13 +1,11 @@
 -- The rules of these commands, each way by itself.
 -- Assumes nothing.
 use mathlib.Core.Path.{_≡_}
-use mathlib.Core.Bool.{Bool, true, false, not, _&&_}
+use mathlib.Core.Bool.{Bool, true, false, not}
 use mathlib.Core.List.{List, []}
 use Prim.Native.Nat.{ℕ, _+_, _<_, _≤_}
-use lib.Dec.{leb, ltb}
 use lib.ListN.{take, drop}
-use borrow.Author.Tests.{lt-ltb, le-ltb, leb-true, ltb-true}
-use Rattle.file_laws.proofs.Written.{and-both}
+use borrow.Author.Tests.{lt-ltb, le-ltb}
 use Rattle.directory.specs.declared.Found.{Found}
 use Rattle.directory.specs.declared.Found.the-variants.{At, Nothing}
 use Rattle.directory.specs.Directory.{findOf}
@@ -19,7 +17,7 @@ use Rattle.fonts.specs.Bitmaps.{bitmapWidth, bitmapHeight, isBitmap}
 use Rattle.bitmap.specs.Bitmaps.{packedBox, inlineByte}
 use Rattle.state.specs.declared.Phase.the-variants.{Idle, Inline}
 use Rattle.state.specs.declared.State.{State}
-use Rattle.state.specs.Soundness.{inlineBytes, soundInline}
+use Rattle.state.specs.Soundness.{inlineBytes}
 use Rattle.rules.specs.World.{World, world, quietly, refused}
 use Rattle.rules.specs.Drawing.{ordered}
 use Rattle.rules.specs.Pictures.{bitmapIn, bitmapAt, showBitmap, beginInline, inlineData}
@@ -61,19 +59,6 @@ pub inline-done : (g s : List ℕ) (st : State) (x1 y1 x2 y2 : ℕ) (t : Bool) �
     → beginInline (world g s st) x1 y1 x2 y2 ≡ quietly (world g s (inPhaseOf st (Inline x1 y1 x2 y2 0)))
 unfolding beginInline
 inline-done g s st x1 y1 x2 y2 t e f = rw (← e, f)
-
--- what sound data in line gives
-pub record Coming (x1 y1 x2 y2 d : ℕ) : Type 0 where
-  pub columns : x1 ≤ x2
-  pub rows : y1 ≤ y2
-  pub left : d < inlineBytes x1 y1 x2 y2
-
-pub coming : (x1 y1 x2 y2 d : ℕ) → soundInline x1 y1 x2 y2 d ≡ true → Coming x1 y1 x2 y2 d
-unfolding soundInline
-coming x1 y1 x2 y2 d e =
-    let p = and-both (leb x1 x2 && leb y1 y2) (ltb d (inlineBytes x1 y1 x2 y2)) e in
-    let q = and-both (leb x1 x2) (leb y1 y2) (p .0) in
-    record { columns = leb-true x1 x2 (q .0); rows = leb-true y1 y2 (q .1); left = ltb-true d (inlineBytes x1 y1 x2 y2) (p .1) }
 
 module _ (g s : List ℕ) (st : State) (x1 y1 x2 y2 d b : ℕ) (g' : List ℕ) (n : ℕ) (painted : g' ≡ inlineByte x1 y1 x2 y2 d b g) (all : n ≡ inlineBytes x1 y1 x2 y2) where
   pub data-more : d + 1 < n → inlineData (world g s st) x1 y1 x2 y2 d b ≡ quietly (world g' s (inPhaseOf st (Inline x1 y1 x2 y2 (d + 1))))

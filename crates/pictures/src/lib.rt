@@ -23,8 +23,6 @@ use state::Phase;
 use state::State;
 use state::inline_bytes;
 ghost use mathlib.Core.Path.{_≡_};
-ghost use mathlib.Core.Bool.{true};
-ghost use Rattle.state.specs.Soundness.{soundInline};
 ghost use Rattle.rules.specs.Pictures.{bitmapIn, showBitmap, beginInline, inlineData};
 ghost use Rattle.outcome.specs.Contract.{Sets, Paints, Shows};
 
@@ -89,7 +87,7 @@ pub fn begin_inline(state: State, x1: u8, y1: u8, x2: u8, y2: u8) -> Outcome
     ))
 }
 
-// Byte number `came` of the data, painted as it comes.
+// Byte number `came` of the data, painted as it comes; one behind the last ends the data too.
 pub fn inline_data(
     framebuffer: &mut [u8],
     state: State,
@@ -100,12 +98,11 @@ pub fn inline_data(
     came: u16,
     byte: u8,
 ) -> Outcome
-    requires { ⌜ soundInline x1 y1 x2 y2 came ≡ true ⌝ }
     ensures { λ r. ⌜ Paints (λ w. inlineData w x1 y1 x2 y2 came byte) state (now (framebuffer .entry)) (now (framebuffer .exit)) r ⌝ }
 {
     paint_inline(framebuffer, x1, y1, x2, y2, came, byte);
     let all = inline_bytes(x1, y1, x2, y2);
-    if came + 1 < all {
+    if came as u32 + 1 < all as u32 {
         return done(in_phase(
             state,
             Phase::Inline {

@@ -16,7 +16,7 @@ use bar_graph::length_of;
 use queue::Flow;
 ghost use mathlib.Core.Path.{_≡_};
 ghost use mathlib.Core.Bool.{_&&_, _||_};
-ghost use Prim.Native.Nat.{_+_, _*_, _<_, _≤_};
+ghost use Prim.Native.Nat.{_-_, _*_, _<_, _≤_};
 ghost use lib.ListN.{drop};
 ghost use Rattle.state.specs.Soundness.{every, inlineBytes, soundGathering, soundInline, soundUpload, soundPhase, soundText, soundPort, thresholdsFit};
 ghost use Rattle.state.specs.Soundness.{soundCorners, soundSetUp, soundBar, soundStrip, soundPanel};
@@ -54,13 +54,22 @@ fn product(a: u16, b: u16) -> u16
     a * b
 }
 
-// The bytes of data in line for corners in order.
+// 0 where b is the greater.
+fn saturating_sub(a: u8, b: u8) -> u16
+    ensures { λ r. ⌜ (r ≡ a - b) × (r < 256) ⌝ }
+{
+    if b < a {
+        return word(a) - word(b);
+    }
+    0
+}
+
+// The bytes of data in line for a rectangle; corners out of order count as one column or row.
 pub fn inline_bytes(x1: u8, y1: u8, x2: u8, y2: u8) -> u16
-    requires { ⌜ (x1 ≤ x2) × (y1 ≤ y2) ⌝ }
     ensures { λ r. ⌜ r ≡ inlineBytes x1 y1 x2 y2 ⌝ }
 {
-    let across = (word(x2) - word(x1) + 8) / 8;
-    let rows = word(y2) - word(y1) + 1;
+    let across = (saturating_sub(x2, x1) + 8) / 8;
+    let rows = saturating_sub(y2, y1) + 1;
     product(across, rows)
 }
 

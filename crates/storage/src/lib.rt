@@ -27,7 +27,6 @@ use state::State;
 use state::start_text;
 ghost use mathlib.Core.Path.{_≡_};
 ghost use mathlib.Core.Bool.{_||_};
-ghost use Prim.Native.Nat.{_<_};
 ghost use Rattle.directory.specs.Directory.{entries, hasFile};
 ghost use Rattle.rules.specs.Files.{inUse, lacksSpace, beginUpload, uploadData, deleteFile, purge};
 ghost use Rattle.outcome.specs.Contract.{Stores, StoresOn};
@@ -142,7 +141,6 @@ pub fn upload_data(
     held: u8,
     byte: u8,
 ) -> Outcome
-    requires { ⌜ stored < size ⌝ }
     ensures { λ r. ⌜ Stores (λ w. uploadData w kind number size stored waiting held byte) state (now (store .entry)) (now (store .exit)) r ⌝ }
 {
     if !waiting {
@@ -163,7 +161,7 @@ pub fn upload_data(
         return refused(state, UPLOAD_ABORTED);
     }
     store_byte(store, stored, held);
-    if stored + 1 < size {
+    if stored as u32 + 1 < size as u32 {
         let next = in_phase(
             state,
             Phase::Upload {

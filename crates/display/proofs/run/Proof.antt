@@ -4,7 +4,7 @@ use native.Mathlib.Omega.{arith}
 use lib.ListN.{length}
 use borrow.Author.Needs.{needs}
 use Rattle.rules.specs.World.{world}
-use Rattle.display.proofs.Feeding.{Feeding, feeding-start, feeding-step, feeding-stop, feeding-end, room-known, tall, phase-sound}
+use Rattle.display.proofs.Feeding.{Feeding, feeding-start, feeding-step, feeding-stop, feeding-end, room-known, tall}
 use Rattle.display.proofs.run.Statement.{statement}
 use Rattle.display.proofs.run.Tie as tie
 
@@ -38,7 +38,7 @@ shared-slice-read-step : tie.Need-shared-slice-read-step Inv-loop μ-loop
 shared-slice-read-step c = search needs
 
 step-requires : tie.Need-step-requires Inv-loop μ-loop
-step-requires c κs = (tall _ (c .before .before .before .before .before .loop .inv .3 .kept), phase-sound _ (c .before .before .before .before .before .loop .inv .3 .kept))
+step-requires c κs = search needs
 
 send-requires : tie.Need-send-requires Inv-loop μ-loop
 send-requires c κs = omega (arith, room-known (c .before .before .before .before .before .before .before .before .before .before .before .loop .inv .3) .1, c .before .before .before .before .before .before .before .before .before .if1 .left)
@@ -50,7 +50,7 @@ loop-less : tie.Need-loop-less Inv-loop μ-loop
 loop-less c = search needs
 
 loop-again : tie.Need-loop-again Inv-loop μ-loop
-loop-again c = (search needs, search needs, search needs, feeding-step _ _ _ _ _ (c .before .before .before .before .before .before .before .before .before .before .before .before .before .before .before .loop .inv .3) (search needs) refl (c .before .before .before .before .before .before .before .before .before .before .before .before .before .before .before .before .before .shared-slice-known .given _ .fits) (search needs) (c .before .before .before .before .before .before .before .before .before .step .ensures) (c .before .before .before .send .ensures .0) (c .before .before .before .send .ensures .1))
+loop-again c = (search needs, search needs, search needs, feeding-step _ _ _ _ _ (c .before .before .before .before .before .before .before .before .before .before .before .before .before .before .before .loop .inv .3) (search needs) refl (c .before .before .before .before .before .before .before .before .before .before .before .before .before .before .before .before .before .shared-slice-known .given _ .fits) (search needs) (c .before .before .before .before .before .before .before .before .before .step .ensures .came (tall _ (c .before .before .before .before .before .before .before .before .before .before .before .before .before .before .before .loop .inv .3 .kept))) (c .before .before .before .send .ensures .0) (c .before .before .before .send .ensures .1))
 
 same-length-4 : tie.Need-same-length-4 Inv-loop μ-loop
 same-length-4 c = search needs

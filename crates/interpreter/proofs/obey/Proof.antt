@@ -1,5 +1,5 @@
 use Rattle.interpreter.proofs.Commands.{by-sets, by-sets-on, by-paints, by-stores, by-stores-on, by-shows, unknown-is, clear-is, home-is, point-is, place-is, wrap-on-is, wrap-off-is, scroll-on-is, scroll-off-is, font-is, metrics-is, colour-is, pixel-is, line-is, continue-is, frame-is, solid-is, bar-is, write-is, strip-is, shift-is, bitmap-is, inline-is, upload-font-is, upload-bitmap-is, delete-is, purge-is, flow-on-is, flow-off-is, contrast-is, backlight-on-is, backlight-off-is, serial-is}
-use Rattle.outcome.proofs.Laws.{came-refused}
+use Rattle.outcome.proofs.Laws.{alters-refused}
 use borrow.Author.Needs.{needs}
 use Rattle.interpreter.proofs.obey.Statement.{statement}
 use Rattle.interpreter.proofs.obey.Tie as tie
@@ -407,7 +407,7 @@ set-serial-requires : tie.Need-set-serial-requires
 set-serial-requires c κs = search needs
 
 returns : tie.Need-returns
-returns c = came-refused _ _ _ _ 16 _ (unknown-is _ _ _ (search needs)) (c .refused .ensures)
+returns c = alters-refused 16 (c .refused .ensures) (unknown-is _ _ _ (search needs))
 
 same-length : tie.Need-same-length
 same-length c = search needs
@@ -425,7 +425,7 @@ same-length-2 : tie.Need-same-length-2
 same-length-2 c = search needs
 
 returns-5 : tie.Need-returns-5
-returns-5 c = by-stores-on _ _ _ (c .set-place .ensures) (c .before .before .before .before .before .before .pre) (place-is _ _ _ (search needs))
+returns-5 c = by-stores-on _ _ _ (c .set-place .ensures) (place-is _ _ _ (search needs))
 
 returns-6 : tie.Need-returns-6
 returns-6 c = by-sets _ _ _ (c .set-wrap .ensures) (wrap-on-is _ _ _ (search needs))
@@ -443,7 +443,7 @@ same-length-3 : tie.Need-same-length-3
 same-length-3 c = search needs
 
 returns-10 : tie.Need-returns-10
-returns-10 c = by-stores-on _ _ _ (c .choose-font .ensures) (c .before .before .before .before .before .before .pre) (font-is _ _ _ (search needs))
+returns-10 c = by-stores-on _ _ _ (c .choose-font .ensures) (font-is _ _ _ (search needs))
 
 returns-11 : tie.Need-returns-11
 returns-11 c = by-sets _ _ _ (c .set-metrics .ensures) (metrics-is _ _ _ (search needs))
@@ -482,7 +482,7 @@ returns-17 : tie.Need-returns-17
 returns-17 c = by-paints _ _ _ (c .before .before .fill-rectangle .ensures) (solid-is _ _ _ (search needs))
 
 returns-18 : tie.Need-returns-18
-returns-18 c = by-sets-on _ _ _ (c .set-up-bar .ensures) (c .before .before .before .before .before .pre) (bar-is _ _ _ (search needs))
+returns-18 c = by-sets-on _ _ _ (c .set-up-bar .ensures) (bar-is _ _ _ (search needs))
 
 same-length-9 : tie.Need-same-length-9
 same-length-9 c = search needs
@@ -491,7 +491,7 @@ returns-19 : tie.Need-returns-19
 returns-19 c = by-paints _ _ _ (c .before .before .write-bar .ensures) (write-is _ _ _ (search needs))
 
 returns-20 : tie.Need-returns-20
-returns-20 c = by-sets-on _ _ _ (c .set-up-strip .ensures) (c .before .before .before .before .before .pre) (strip-is _ _ _ (search needs))
+returns-20 c = by-sets-on _ _ _ (c .set-up-strip .ensures) (strip-is _ _ _ (search needs))
 
 same-length-10 : tie.Need-same-length-10
 same-length-10 c = search needs
@@ -533,7 +533,7 @@ same-length-16 : tie.Need-same-length-16
 same-length-16 c = search needs
 
 returns-27 : tie.Need-returns-27
-returns-27 c = by-stores-on _ _ _ (c .before .before .purge .ensures) (c .before .before .before .before .before .before .before .before .pre) (purge-is _ _ _ (search needs))
+returns-27 c = by-stores-on _ _ _ (c .before .before .purge .ensures) (purge-is _ _ _ (search needs))
 
 returns-28 : tie.Need-returns-28
 returns-28 c = by-sets _ _ _ (c .flow-on .ensures) (flow-on-is _ _ _ (search needs))

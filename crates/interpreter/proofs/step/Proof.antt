@@ -1,5 +1,5 @@
-use Rattle.interpreter.proofs.Phases.{in-idle, in-prefix, in-gathering, in-inline, in-upload, came-as, sound-gathering, sound-inline, sound-upload}
-use Rattle.interpreter.proofs.Commands.{by-paints, by-stores}
+use Rattle.interpreter.proofs.Phases.{in-idle, in-prefix, in-gathering, in-inline, in-upload}
+use Rattle.interpreter.proofs.Commands.{by-paints, by-stores, by-shows-on, by-alters}
 use borrow.Author.Needs.{needs}
 use Rattle.interpreter.proofs.step.Statement.{statement}
 use Rattle.interpreter.proofs.step.Tie as tie
@@ -20,19 +20,19 @@ enum-known-phase : tie.Need-enum-known-phase
 enum-known-phase c = search needs
 
 take-argument-requires : tie.Need-take-argument-requires
-take-argument-requires c κs = (search needs, sound-gathering _ _ _ (c .before .before .before .phase .given .1) (c .before .before .before .before .before .before .before .before .pre .1))
+take-argument-requires c κs = search needs
 
 enum-known-phase-2 : tie.Need-enum-known-phase-2
 enum-known-phase-2 c = search needs
 
 inline-data-requires : tie.Need-inline-data-requires
-inline-data-requires c κs = sound-inline _ _ _ _ _ _ (c .before .before .phase2 .given .1) (c .before .before .before .before .before .before .before .pre .1)
+inline-data-requires c κs = search needs
 
 enum-known-phase-3 : tie.Need-enum-known-phase-3
 enum-known-phase-3 c = search needs
 
 upload-data-requires : tie.Need-upload-data-requires
-upload-data-requires c κs = sound-upload _ _ _ _ _ _ _ (c .before .before .phase3 .given .1) (c .before .before .before .before .before .before .before .pre .1)
+upload-data-requires c κs = search needs
 
 same-length : tie.Need-same-length
 same-length c = search needs
@@ -41,7 +41,7 @@ same-length-2 : tie.Need-same-length-2
 same-length-2 c = search needs
 
 returns : tie.Need-returns
-returns c = came-as (in-idle _ _ (search needs)) (c .before .before .take-alone .ensures)
+returns c = by-shows-on _ _ _ (c .before .before .take-alone .ensures) (in-idle _ _ (search needs))
 
 same-length-3 : tie.Need-same-length-3
 same-length-3 c = search needs
@@ -50,7 +50,7 @@ same-length-4 : tie.Need-same-length-4
 same-length-4 c = search needs
 
 returns-2 : tie.Need-returns-2
-returns-2 c = came-as (in-prefix _ _ (search needs)) (c .before .before .before .before .take-code .ensures)
+returns-2 c = by-alters _ _ _ (c .before .before .before .before .take-code .ensures) (in-prefix _ _ (search needs))
 
 same-length-5 : tie.Need-same-length-5
 same-length-5 c = search needs
@@ -59,7 +59,7 @@ same-length-6 : tie.Need-same-length-6
 same-length-6 c = search needs
 
 returns-3 : tie.Need-returns-3
-returns-3 c = came-as (in-gathering _ _ _ _ (c .before .before .before .before .before .before .before .before .phase .given .1)) (c .before .before .before .before .take-argument .ensures)
+returns-3 c = by-alters _ _ _ (c .before .before .before .before .take-argument .ensures) (in-gathering _ _ _ _ (c .before .before .before .before .before .before .before .before .phase .given .1))
 
 same-length-7 : tie.Need-same-length-7
 same-length-7 c = search needs

@@ -1,6 +1,5 @@
-use Rattle.interpreter.proofs.Phases.{alone-prefix, alone-character}
-use Rattle.interpreter.proofs.Commands.{by-shows-on}
-use Rattle.outcome.proofs.Laws.{came-done, done-with}
+use Rattle.interpreter.proofs.Phases.{alone-prefix, character-shown}
+use Rattle.outcome.proofs.Laws.{shows-on-done, done-with}
 use borrow.Author.Needs.{needs}
 use Rattle.interpreter.proofs.take_alone.Statement.{statement}
 use Rattle.interpreter.proofs.take_alone.Tie as tie
@@ -12,7 +11,7 @@ done-requires : tie.Need-done-requires
 done-requires c κs = search needs
 
 returns : tie.Need-returns
-returns c = came-done _ _ _ _ _ _ (alone-prefix _ _ _ _ (search needs)) (done-with (c .before .in-phase .ensures) (c .done .ensures))
+returns c = shows-on-done _ (done-with (c .before .in-phase .ensures) (c .done .ensures)) (λ t. alone-prefix _ _ _ _ (search needs))
 
 draw-character-requires : tie.Need-draw-character-requires
 draw-character-requires c κs = search needs
@@ -21,7 +20,7 @@ same-length : tie.Need-same-length
 same-length c = search needs
 
 returns-2 : tie.Need-returns-2
-returns-2 c = by-shows-on _ _ _ (c .before .before .draw-character .ensures) (c .before .before .before .before .before .before .before .pre) (alone-character _ _ (search needs))
+returns-2 c = character-shown _ (search needs) (c .before .before .draw-character .ensures)
 
 pub take-alone-spec : {M : Type 1} → statement M
 take-alone-spec =

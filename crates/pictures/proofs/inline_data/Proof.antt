@@ -1,6 +1,5 @@
-use Rattle.pictures.proofs.Laws.{coming, data-more, data-last}
+use Rattle.pictures.proofs.Laws.{data-more, data-last}
 use Rattle.outcome.proofs.Laws.{paints-done, done-with}
-use native.Mathlib.Omega.{arith}
 use borrow.Author.Needs.{needs}
 use Rattle.pictures.proofs.inline_data.Statement.{statement}
 use Rattle.pictures.proofs.inline_data.Tie as tie
@@ -9,13 +8,16 @@ paint-inline-requires : tie.Need-paint-inline-requires
 paint-inline-requires c κs = search needs
 
 inline-bytes-requires : tie.Need-inline-bytes-requires
-inline-bytes-requires c κs = (coming _ _ _ _ _ (c .before .before .before .before .before .pre) .columns, coming _ _ _ _ _ (c .before .before .before .before .before .pre) .rows)
+inline-bytes-requires c κs = search needs
 
 add-if1 : tie.Need-add-if1
-add-if1 c = omega (arith, coming (c .before .before .before .before .before .before .args .x1) (c .before .before .before .before .before .before .args .y1) (c .before .before .before .before .before .before .args .x2) (c .before .before .before .before .before .before .args .y2) (c .before .before .before .before .before .before .args .came) (c .before .before .before .before .before .before .pre) .left, c .inline-bytes .ensures)
+add-if1 c = search needs
 
-add-t16 : tie.Need-add-t16
-add-t16 c = search needs
+cast-if1 : tie.Need-cast-if1
+cast-if1 c = search needs
+
+add-t18 : tie.Need-add-t18
+add-t18 c = search needs
 
 in-phase-requires : tie.Need-in-phase-requires
 in-phase-requires c κs = search needs
@@ -48,7 +50,8 @@ inline-data-spec =
     paint-inline-requires
     inline-bytes-requires
     add-if1
-    add-t16
+    cast-if1
+    add-t18
     in-phase-requires
     done-requires
     same-length

@@ -28,8 +28,8 @@ store-byte-requires c κs = search needs
 add-if3 : tie.Need-add-if3
 add-if3 c = search needs
 
-add-t19 : tie.Need-add-t19
-add-t19 c = search needs
+add-t21 : tie.Need-add-t21
+add-t21 c = search needs
 
 in-phase-requires-2 : tie.Need-in-phase-requires-2
 in-phase-requires-2 c κs = search needs
@@ -70,7 +70,7 @@ upload-data-spec =
     returns-2
     store-byte-requires
     add-if3
-    add-t19
+    add-t21
     in-phase-requires-2
     done-requires
     same-length

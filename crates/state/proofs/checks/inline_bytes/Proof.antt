@@ -4,26 +4,14 @@ use borrow.Author.Needs.{needs}
 use Rattle.state.proofs.checks.inline_bytes.Statement.{statement}
 use Rattle.state.proofs.checks.inline_bytes.Tie as tie
 
-word-requires : tie.Need-word-requires
-word-requires c κs = search needs
-
-word-requires-2 : tie.Need-word-requires-2
-word-requires-2 c κs = search needs
-
-sub-across : tie.Need-sub-across
-sub-across c = search needs
+saturating-sub-requires : tie.Need-saturating-sub-requires
+saturating-sub-requires c κs = search needs
 
 add-across : tie.Need-add-across
 add-across c = search needs
 
-word-requires-3 : tie.Need-word-requires-3
-word-requires-3 c κs = search needs
-
-word-requires-4 : tie.Need-word-requires-4
-word-requires-4 c κs = search needs
-
-sub-rows : tie.Need-sub-rows
-sub-rows c = search needs
+saturating-sub-requires-2 : tie.Need-saturating-sub-requires-2
+saturating-sub-requires-2 c κs = search needs
 
 add-rows : tie.Need-add-rows
 add-rows c = search needs
@@ -38,13 +26,9 @@ pub inline-bytes-spec : {M : Type 1} → statement M
 inline-bytes-spec =
     tie.close
     (tie.spec
-    word-requires
-    word-requires-2
-    sub-across
+    saturating-sub-requires
     add-across
-    word-requires-3
-    word-requires-4
-    sub-rows
+    saturating-sub-requires-2
     add-rows
     product-requires
     returns)
