@@ -39,7 +39,7 @@ use Rattle.rules.proofs.ByByte.{demand-3}
 use Rattle.rules.proofs.Replies.{said-fits}
 use Rattle.rules.proofs.Counts.{refusal-count, last-refusal}
 use Rattle.rules.proofs.GoodByte.{good-step, good-start, framebuffer-length, store-length}
-use Rattle.calls.specs.Memory.{framebufferBytes, Memory, storeFits, uploadRefused, checked, loaded, saved, Kept}
+use Rattle.calls.specs.Memory.{framebufferRows, framebufferBytes, Memory, storeFits, uploadRefused, checked, loaded, saved, Kept}
 use Rattle.calls.specs.Feed.{Fed, fed, fedBytes, feedOf}
 use Rattle.calls.specs.Line.{bothSound}
 use Rattle.calls.specs.Start.{emptied, startChecked, startOf, startWorld}
@@ -67,10 +67,10 @@ state-fits w g = fits (w .state) (g .port-fits) (g .panel-fits)
 back : (w : World) → Kept w → decodeOf (encodeOf (w .state)) ≡ w .state
 back w k = decode-encode (w .state) (state-fits w (k .good))
 
-record-sound : (w : World) → Kept w → soundRecord 64 (encodeOf (w .state)) ≡ true
+record-sound : (w : World) → Kept w → soundRecord framebufferRows (encodeOf (w .state)) ≡ true
 unfolding height
 record-sound w k =
-    encoded-sound 64 (w .state) (state-fits w (k .good)) (subst (λ (n : ℕ). soundState (n / 30) (w .state) ≡ true) (k .framebuffer) (k .good .sound))
+    encoded-sound framebufferRows (w .state) (state-fits w (k .good)) (subst (λ (n : ℕ). soundState (n / 30) (w .state) ≡ true) (k .framebuffer) (k .good .sound))
     (k .good .thresholds) (k .good .canonical)
 
 both-false : (a b : Bool) → a ≡ false → b ≡ false → (a || b) ≡ false
@@ -89,7 +89,7 @@ unfolding checked
 pass w k =
     let d = back w k in
     let u = welcome-passes (w .state .port .phase) (w .store) (k .good .upload) in
-    rw (eq-eqb (length (w .framebuffer)) 1920 (k .framebuffer), k .store, record-sound w k, k .good .store .valid, d, u)
+    rw (eq-eqb (length (w .framebuffer)) framebufferBytes (k .framebuffer), k .store, record-sound w k, k .good .store .valid, d, u)
 
 pub kept-run : (w : World) (l : List ℕ) → Kept w → AllBytes l → Kept (run w l)
 kept-run = good-run Kept kept-step back pass record-sound
@@ -124,20 +124,20 @@ last-check true k e = absurd (never k e)
 last-check false k e = refl
 
 pub record Checks (m : Memory) : Type 0 where
-  pub framebuffer : length (m .framebuffer) ≡ 1920
+  pub framebuffer : length (m .framebuffer) ≡ framebufferBytes
   pub store : storeFits (m .store) ≡ true
-  pub state : soundRecord 64 (m .state) ≡ true
+  pub state : soundRecord framebufferRows (m .state) ≡ true
   pub valid : validOf (m .store) ≡ true
   pub upload : uploadRefused (m .store) (decodeOf (m .state) .port .phase) ≡ false
 
 checks : (m : Memory) → checked m ≡ 0 → Checks m
 unfolding checked
 checks m e =
-    let a = unanswered (eqb (length (m .framebuffer)) 1920) 0 _ e in
+    let a = unanswered (eqb (length (m .framebuffer)) framebufferBytes) 0 _ e in
     let b = unanswered (storeFits (m .store)) 1 _ (a .1) in
-    let c = unanswered (soundRecord 64 (m .state)) 2 _ (b .1) in
+    let c = unanswered (soundRecord framebufferRows (m .state)) 2 _ (b .1) in
     let d = neither (validOf (m .store)) _ (last-check _ 3 (c .1)) in
-    record { framebuffer = eqb-true (length (m .framebuffer)) 1920 (a .0); store = b .0; state = c .0; valid = d .0; upload = d .1 }
+    record { framebuffer = eqb-true (length (m .framebuffer)) framebufferBytes (a .0); store = b .0; state = c .0; valid = d .0; upload = d .1 }
 
 neither-use : (a b : Bool) → (a || b) ≡ false → (a ≡ false) × (b ≡ false)
 neither-use true b e = absurd (true≢false e)
@@ -155,7 +155,7 @@ unfolding height
 checked-kept m b e =
     let c = checks m e in
     let f = decoded-fits (m .state) (b .state) in
-    let p = passed 64 (m .state) (c .state) in
+    let p = passed framebufferRows (m .state) (c .state) in
     record {
       good = record {
         sound = subst (λ (n : ℕ). soundState (n / 30) (decodeOf (m .state)) ≡ true) (sym (c .framebuffer)) (p .sound);
@@ -172,7 +172,7 @@ checked-kept m b e =
     }
 
 pub saved-loaded : (m : Memory) → checked m ≡ 0 → saved (loaded m) ≡ m
-saved-loaded m e = rw (encode-decode 64 (m .state) (checks m e .state))
+saved-loaded m e = rw (encode-decode framebufferRows (m .state) (checks m e .state))
 
 -- ---- any list of calls
 
@@ -194,7 +194,7 @@ served-saved w q cs k h =
       count = rw d (ap (λ (r : Refusals). r .count) e ∙ refusal-count w l z c);
       last = rw d (ap (λ (r : Refusals). r .last) e ∙ last-refusal w l z c);
       again = ap checked (s .left) ∙ pass v (s .kept);
-      line-again = λ f. both-true _ _ (ap (λ (m : Memory). soundRecord 64 (m .state)) (s .left) ∙ record-sound v (s .kept)) (s .queue-kept f);
+      line-again = λ f. both-true _ _ (ap (λ (m : Memory). soundRecord framebufferRows (m .state)) (s .left) ∙ record-sound v (s .kept)) (s .queue-kept f);
     }
 
 -- THE THEOREM, from any memory that passes the checks and any queue record
@@ -238,7 +238,7 @@ pub record StartChecks (m : Memory) (q : List ℕ) : Type 0 where
 start-checks : (m : Memory) (q : List ℕ) → startChecked m q ≡ 0 → StartChecks m q
 unfolding startChecked
 start-checks m q e =
-    let a = unanswered (eqb (length (m .framebuffer)) 1920) 0 _ e in
+    let a = unanswered (eqb (length (m .framebuffer)) framebufferBytes) 0 _ e in
     let b = unanswered (storeFits (m .store)) 1 _ (a .1) in
     let c = unanswered (eqb (length (m .state)) recordSize && eqb (length q) queue-record.recordSize) 2 _ (b .1) in
     let d = both (eqb (length (m .state)) recordSize) (eqb (length q) queue-record.recordSize) (c .0) in
@@ -247,9 +247,9 @@ start-checks m q e =
 pub start-kept : (m : Memory) (q : List ℕ) → Bytes (m .store) → startChecked m q ≡ 0 → Kept (startWorld (m .store))
 start-kept m q b e =
     let c = start-checks m q e in
-    let g : List ℕ = replicate 1920 0 in
-    let n : length g ≡ 1920 = length-replicate {A = ℕ} 1920 0 in
-    record { good = good-start 64 g (m .store) n (omega arith) (zeros 1920) b (c .valid); framebuffer = n; store = c .store }
+    let g : List ℕ = replicate framebufferBytes 0 in
+    let n : length g ≡ framebufferBytes = length-replicate {A = ℕ} framebufferBytes 0 in
+    record { good = good-start framebufferRows g (m .store) n (omega arith) (zeros framebufferBytes) b (c .valid); framebuffer = n; store = c .store }
 
 -- after a start that answers 0 every check passes, and the world is the start's
 pub start-passes : (m : Memory) (q : List ℕ) → Bytes (m .store) → startChecked m q ≡ 0

@@ -19,7 +19,7 @@ use Rattle.rules.proofs.Good.{parts}
 use Rattle.outcome.specs.declared.Reply.{Reply}
 use Rattle.outcome.specs.Outcome.{sentBy}
 use Rattle.outcome.specs.Contract.{Came}
-use Rattle.calls.specs.Memory.{Kept}
+use Rattle.calls.specs.Memory.{framebufferRows, Kept}
 use Rattle.calls.proofs.Demands.{kept-step}
 use Rattle.display.specs.Running.{Ran}
 
@@ -75,7 +75,7 @@ feeding-start w p r k =
     record { kept = k; within = omega arith; next = refl; sent = refl; long = refl; room = omega arith; left = z ∙ ap (λ (m : ℕ). 0 + taken w m p) (sym n) }
 
 -- the framebuffer is as high as a kept world's is
-pub tall : (w : World) → Kept w → height (w .framebuffer) ≡ 64
+pub tall : (w : World) → Kept w → height (w .framebuffer) ≡ framebufferRows
 unfolding height
 tall w k = omega (arith, k .framebuffer)
 

@@ -36,7 +36,7 @@ use Rattle.rules.specs.World.{World, world}
 use Rattle.rules.specs.Files.{inUse, lacksSpace}
 use Rattle.rules.specs.Calls.{said, taken}
 use Rattle.rules.proofs.Replies.{said-fits}
-use Rattle.calls.specs.Memory.{Memory, memory, storeFits, uploadRefused, checked, loaded, saved, Kept}
+use Rattle.calls.specs.Memory.{framebufferRows, framebufferBytes, Memory, memory, storeFits, uploadRefused, checked, loaded, saved, Kept}
 use Rattle.calls.specs.Feed.{fedBytes, feedOf}
 use Rattle.calls.specs.Start.{started, startChecked, startOf, emptied}
 use Rattle.calls.specs.Line.{served, arriveCall, takeCall}
@@ -63,44 +63,44 @@ emptied-is q e =
     ∙ append-nil (emptied q)
 
 module _ (g s st q : List ℕ) where
-  pub start-1 : (length g ≡ 1920 → ⊥) → started (memory g s st) q 1 ≡ startOf (memory g s st) q
+  pub start-1 : (length g ≡ framebufferBytes → ⊥) → started (memory g s st) q 1 ≡ startOf (memory g s st) q
   unfolding startOf startChecked
-  start-1 h = rw (ne-eqb (length g) 1920 h)
+  start-1 h = rw (ne-eqb (length g) framebufferBytes h)
 
-  module _ (size : length g ≡ 1920) (t : Bool) (fits : t ≡ storeFits s) where
+  module _ (size : length g ≡ framebufferBytes) (t : Bool) (fits : t ≡ storeFits s) where
     pub start-2 : not t ≡ true → started (memory g s st) q 2 ≡ startOf (memory g s st) q
     unfolding startOf startChecked
-    start-2 h = rw (eq-eqb (length g) 1920 size, ← fits, h)
+    start-2 h = rw (eq-eqb (length g) framebufferBytes size, ← fits, h)
 
     module _ (fine : not t ≡ false) where
       pub start-3 : (length st ≡ 201 → ⊥) → started (memory g s st) q 3 ≡ startOf (memory g s st) q
       unfolding startOf startChecked
-      start-3 h = rw (eq-eqb (length g) 1920 size, ← fits, fine, ne-eqb (length st) 201 h)
+      start-3 h = rw (eq-eqb (length g) framebufferBytes size, ← fits, fine, ne-eqb (length st) 201 h)
 
       pub start-3-queue : length st ≡ 201 → (length q ≡ 85 → ⊥) → started (memory g s st) q 3 ≡ startOf (memory g s st) q
       unfolding startOf startChecked
-      start-3-queue e h = rw (eq-eqb (length g) 1920 size, ← fits, fine, eq-eqb (length st) 201 e, ne-eqb (length q) 85 h)
+      start-3-queue e h = rw (eq-eqb (length g) framebufferBytes size, ← fits, fine, eq-eqb (length st) 201 e, ne-eqb (length q) 85 h)
 
       module _ (record-size : length st ≡ 201) (queue-size : length q ≡ 85) (v : Bool) (valid : v ≡ validOf s) where
         pub start-4 : not v ≡ true → started (memory g s st) q 4 ≡ startOf (memory g s st) q
         unfolding startOf startChecked
-        start-4 h = rw (eq-eqb (length g) 1920 size, ← fits, fine, eq-eqb (length st) 201 record-size, eq-eqb (length q) 85 queue-size, ← valid, h)
+        start-4 h = rw (eq-eqb (length g) framebufferBytes size, ← fits, fine, eq-eqb (length st) 201 record-size, eq-eqb (length q) 85 queue-size, ← valid, h)
 
-        pub start-0 : (g' st' q' : List ℕ) (z : State) → not v ≡ false → g' ≡ fill everywhere false g → z ≡ startState 64 → st' ≡ encodedIn z st → q' ≡ emptied q
+        pub start-0 : (g' st' q' : List ℕ) (z : State) → not v ≡ false → g' ≡ fill everywhere false g → z ≡ startState framebufferRows → st' ≡ encodedIn z st → q' ≡ emptied q
             → started (memory g' s st') q' 0 ≡ startOf (memory g s st) q
         unfolding startOf startChecked
         start-0 g' st' q' z h eg ez es eq =
-            let wrote : st' ≡ encodeOf (startState 64) =
-            es ∙ ap (λ (x : State). encodedIn x st) ez ∙ written-whole (startState 64) st (record { args = refl; bars = refl; strips = refl }) record-size in
+            let wrote : st' ≡ encodeOf (startState framebufferRows) =
+            es ∙ ap (λ (x : State). encodedIn x st) ez ∙ written-whole (startState framebufferRows) st (record { args = refl; bars = refl; strips = refl }) record-size in
             rw (
-              eq-eqb (length g) 1920 size,
+              eq-eqb (length g) framebufferBytes size,
               ← fits,
               fine,
               eq-eqb (length st) 201 record-size,
               eq-eqb (length q) 85 queue-size,
               ← valid,
               h,
-              eg ∙ cleared-zeros g 1920 size,
+              eg ∙ cleared-zeros g framebufferBytes size,
               wrote,
               eq,
             )
@@ -108,24 +108,24 @@ module _ (g s st q : List ℕ) where
 -- ---- feed
 
 module _ (g s st p r : List ℕ) where
-  pub feed-1 : (length g ≡ 1920 → ⊥) → called 1 (memory g s st) r 0 0 ≡ feedCall (memory g s st) p r
+  pub feed-1 : (length g ≡ framebufferBytes → ⊥) → called 1 (memory g s st) r 0 0 ≡ feedCall (memory g s st) p r
   unfolding feedCall feedOf checked
-  feed-1 h = rw (ne-eqb (length g) 1920 h)
+  feed-1 h = rw (ne-eqb (length g) framebufferBytes h)
 
-  module _ (size : length g ≡ 1920) (t : Bool) (fits : t ≡ storeFits s) where
+  module _ (size : length g ≡ framebufferBytes) (t : Bool) (fits : t ≡ storeFits s) where
     pub feed-2 : not t ≡ true → called 2 (memory g s st) r 0 0 ≡ feedCall (memory g s st) p r
     unfolding feedCall feedOf checked
-    feed-2 h = rw (eq-eqb (length g) 1920 size, ← fits, h)
+    feed-2 h = rw (eq-eqb (length g) framebufferBytes size, ← fits, h)
 
-    module _ (fine : not t ≡ false) (u : Bool) (sound : u ≡ soundRecord 64 st) where
+    module _ (fine : not t ≡ false) (u : Bool) (sound : u ≡ soundRecord framebufferRows st) where
       pub feed-3 : not u ≡ true → called 3 (memory g s st) r 0 0 ≡ feedCall (memory g s st) p r
       unfolding feedCall feedOf checked
-      feed-3 h = rw (eq-eqb (length g) 1920 size, ← fits, fine, ← sound, h)
+      feed-3 h = rw (eq-eqb (length g) framebufferBytes size, ← fits, fine, ← sound, h)
 
       module _ (true-record : not u ≡ false) (v : Bool) (valid : v ≡ validOf s) where
         pub feed-4 : not v ≡ true → called 4 (memory g s st) r 0 0 ≡ feedCall (memory g s st) p r
         unfolding feedCall feedOf checked
-        feed-4 h = rw (eq-eqb (length g) 1920 size, ← fits, fine, ← sound, true-record, ← valid, h)
+        feed-4 h = rw (eq-eqb (length g) framebufferBytes size, ← fits, fine, ← sound, true-record, ← valid, h)
 
         module _ (orderly : not v ≡ false) (z : State) (b : Bool) (read : z ≡ decodeOf st) (blocked : b ≡ uploadRefused s (z .port .phase)) where
           in-record : b ≡ uploadRefused s (decodeOf st .port .phase)
@@ -133,11 +133,11 @@ module _ (g s st p r : List ℕ) where
 
           pub feed-4-upload : b ≡ true → called 4 (memory g s st) r 0 0 ≡ feedCall (memory g s st) p r
           unfolding feedCall feedOf checked
-          feed-4-upload h = rw (eq-eqb (length g) 1920 size, ← fits, fine, ← sound, true-record, ← valid, orderly, ← in-record, h)
+          feed-4-upload h = rw (eq-eqb (length g) framebufferBytes size, ← fits, fine, ← sound, true-record, ← valid, orderly, ← in-record, h)
 
           pub passes : b ≡ false → checked (memory g s st) ≡ 0
           unfolding checked
-          passes h = rw (eq-eqb (length g) 1920 size, ← fits, fine, ← sound, true-record, ← valid, orderly, ← in-record, h)
+          passes h = rw (eq-eqb (length g) framebufferBytes size, ← fits, fine, ← sound, true-record, ← valid, orderly, ← in-record, h)
 
 fed-0 : (m : Memory) (p r : List ℕ) → checked m ≡ 0 → feedCall m p r ≡ calledBy (fedBytes (loaded m) p (taken (loaded m) (length r) p)) r
 unfolding feedCall feedOf
@@ -163,10 +163,10 @@ kept-there g s st z bg bs bt c e =
     subst (λ (x : State). Kept (world g s x)) (sym e) (checked-kept (memory g s st) (record { framebuffer = bg; store = bs; state = bt }) c)
 
 pub feed-end : (g s st p r : List ℕ) (u : Bool) (z : State) (g' s' : List ℕ) (z' : State) (st' q : List ℕ) (a n k : ℕ) → checked (memory g s st) ≡ 0
-    → u ≡ soundRecord 64 st → not u ≡ false → z ≡ decodeOf st → Ran (world g s z) p r (world g' s' z') q a n k → st' ≡ encodedIn z' st
+    → u ≡ soundRecord framebufferRows st → not u ≡ false → z ≡ decodeOf st → Ran (world g s z) p r (world g' s' z') q a n k → st' ≡ encodedIn z' st
     → called a (memory g' s' st') q n k ≡ feedCall (memory g s st) p r
 feed-end g s st p r u z g' s' z' st' q a n k c sound fine read ran wrote =
-    feed-0 (memory g s st) p r (world g' s' z') st' q a n k c (passed 64 st (sym sound ∙ not-false u fine) .long)
+    feed-0 (memory g s st) p r (world g' s' z') st' q a n k c (passed framebufferRows st (sym sound ∙ not-false u fine) .long)
     (subst (λ (x : State). Ran (world g s x) p r (world g' s' z') q a n k) read ran) wrote
 
 -- ---- arrive and take
@@ -177,7 +177,7 @@ whole-queue q g e n =
     ap (λ (l : List ℕ). take (length g) (queue-record.encodeOf q) ++ l) (drop-of-length-le g {i = 85} (omega (arith, n))) ∙ append-nil (take (length g) (queue-record.encodeOf q))
     ∙ take-all (length g) (queue-record.encodeOf q) (omega (arith, n, tables.length-encode q e))
 
-module _ (st q : List ℕ) (b : ℕ) (t : Bool) (sound : t ≡ soundRecord 64 st) where
+module _ (st q : List ℕ) (b : ℕ) (t : Bool) (sound : t ≡ soundRecord framebufferRows st) where
   pub arrive-3 : not t ≡ true → served 3 0 0 q ≡ arriveCall st q b
   unfolding arriveCall
   arrive-3 h = rw (← sound, not-true t h)
