@@ -1,6 +1,6 @@
 # make test: every test. make demo: the main job. make simulator: a display on a pseudo-terminal, target/bin/simulator.
 # make fuzz SECONDS=n: the comparison with new seeds. make bench: speed.
-# For another processor (docs/BOARDS.md): make archive, make test-target and make bench, each with TARGET=.. and OPT=-Os if it is to be small.
+# For another processor (docs/BOARDS.md): make archive, make test-target and make bench with TARGET=.., and OPT=-Os for a small one.
 .PHONY: test demo simulator fuzz bench listing archive test-target
 
 SECONDS ?= 60
