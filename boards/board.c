@@ -14,7 +14,7 @@ static Slice saved[SLICES];
 
 Slice lent[SLICES];
 uint64_t hash;
-unsigned long calls, answers[CALLS_KINDS][8];
+unsigned long calls, answers[CALL_KINDS][8];
 unsigned long refusals[256];
 
 // What a call writes to, between neighbours that it must not write to.

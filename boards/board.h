@@ -25,7 +25,7 @@ void save_memory(void);
 void restore_memory(void);
 
 // The calls. Each goes into the hash: its answer, its outputs and what stands beside them, and the memory afterwards.
-enum { START, FEED, ARRIVE, TAKE, CALLS_KINDS };
+enum { START, FEED, ARRIVE, TAKE, CALL_KINDS };
 uint32_t call_start(void);
 uint32_t call_feed(const uint8_t *piece, size_t length, size_t room, size_t *consumed);
 uint32_t call_arrive(uint8_t byte);
@@ -35,7 +35,7 @@ uint32_t call_take(uint8_t *byte);
 extern uint64_t hash;
 void begin_hash(void);
 
-extern unsigned long calls, answers[CALLS_KINDS][8];
+extern unsigned long calls, answers[CALL_KINDS][8];
 extern unsigned long refusals[256]; // calls after which a number is the last refusal, and was not before
 
 #endif

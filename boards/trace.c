@@ -46,9 +46,9 @@ static void feed_whole(void)
 static void feed_cut(size_t end)
 {
     size_t at = 0, length, room, consumed;
-    unsigned most = 1 + below(40);
+    unsigned most = 1 + below(40), rounds;
     fresh(ROOM);
-    while (at < end) {
+    for (rounds = 0; at < end && rounds < 100 * LONG; rounds++) {
         length = less(below(most + 1), end - at);
         room = any_room();
         call_feed(stream.bytes + at, length, room, &consumed);
@@ -229,11 +229,11 @@ static const char *run_stream(unsigned long number)
 // The run means something only where every answer and every refusal was met.
 static int is_complete(void)
 {
-    static const char *const names[CALLS_KINDS] = {"start", "feed", "arrive", "take"};
-    static const uint8_t possible[CALLS_KINDS] = {0x1F, 0x3F, 0x89, 0x49}; // a bit for each answer
+    static const char *const names[CALL_KINDS] = {"start", "feed", "arrive", "take"};
+    static const uint8_t possible[CALL_KINDS] = {0x1F, 0x3F, 0x89, 0x49}; // a bit for each answer
     unsigned kind, answer, refusal;
     int complete = 1;
-    for (kind = 0; kind < CALLS_KINDS; kind++)
+    for (kind = 0; kind < CALL_KINDS; kind++)
         for (answer = 0; answer < 8; answer++) {
             if (answers[kind][answer] > 0)
                 printf("%s %u: %lu\n", names[kind], answer, answers[kind][answer]);
