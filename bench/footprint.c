@@ -47,7 +47,7 @@ static void start(void)
 static void feed_all(const Stream *s)
 {
     static uint8_t replies[2 * sizeof s->bytes];
-    size_t consumed, replied;
+    display_length consumed, replied;
     display_feed(our_glass, DISPLAY_FRAMEBUFFER_SIZE, our_store, DISPLAY_STORE_MOST, our_state,
                  DISPLAY_STATE_RECORD_SIZE, s->bytes, s->length, replies, sizeof replies, &consumed, &replied);
 }

@@ -7,7 +7,7 @@ static uint8_t queue[DISPLAY_QUEUE_RECORD_SIZE], replies[DISPLAY_REPLY_ROOM];
 int main(void)
 {
     uint8_t byte = 0, signal = 0;
-    size_t consumed, replied;
+    display_length consumed, replied;
     display_start(glass, sizeof glass, store, sizeof store, state, sizeof state, queue, sizeof queue);
     display_arrive(state, sizeof state, queue, sizeof queue, 254, &signal);
     display_take(state, sizeof state, queue, sizeof queue, &byte, &signal);

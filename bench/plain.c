@@ -95,7 +95,7 @@ static uint8_t graph_refused(const uint8_t *corners)
 {
     if (corners[0] >= DISPLAY_WIDTH || corners[2] >= DISPLAY_WIDTH || corners[1] >= DISPLAY_HEIGHT ||
         corners[3] >= DISPLAY_HEIGHT)
-        return DISPLAY_REFUSED_OFF_SCREEN;
+        return DISPLAY_REFUSED_OUT_OF_BOUNDS;
     return corners[0] < corners[2] && corners[1] < corners[3] ? 0 : DISPLAY_REFUSED_CORNERS_OUT_OF_ORDER;
 }
 

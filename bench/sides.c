@@ -40,11 +40,11 @@ static void our_start(void)
 
 static size_t our_feed(const uint8_t *piece, size_t length, uint8_t *replies)
 {
-    size_t consumed, replied;
+    display_length consumed, replied;
     uint32_t answer = display_feed(our_glass, sizeof our_glass, our_store, sizeof our_store, our_state,
                                    sizeof our_state, piece, length, replies, REPLIES, &consumed, &replied);
     expect_obeyed(sides[OURS].name, answer == DISPLAY_OK);
-    return replied;
+    return (size_t)replied;
 }
 
 static const uint8_t *glass_of_ours(void)

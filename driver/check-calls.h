@@ -20,12 +20,12 @@ typedef struct {
 } Memory;
 
 typedef struct {
-    size_t glass, store, state, queue;
+    display_length glass, store, state, queue;
 } Lengths;
 
 typedef struct {
     uint32_t answer;
-    size_t consumed, replied;
+    display_length consumed, replied;
     uint8_t replies[REPLIES];
 } Fed;
 
@@ -40,13 +40,13 @@ static Memory memory, before;
 static unsigned checks, failures;
 static unsigned strays; // calls that wrote beside what they were lent, or behind their replies
 
-static void check(int line, const char *what, unsigned long expected, unsigned long got)
+static void check(int line, const char *what, unsigned long long expected, unsigned long long got)
 {
     checks++;
     if (expected == got)
         return;
     failures++;
-    printf("check-header.c:%d: %s: expected %lu, got %lu\n", line, what, expected, got);
+    printf("check-header.c:%d: %s: expected %llu, got %llu\n", line, what, expected, got);
 }
 #define CHECK(what, expected, got) check(__LINE__, what, expected, got)
 
@@ -79,15 +79,15 @@ static void check_changes(int line, const char *what, const uint8_t *old, const 
 #define CHANGES(slice, what, ...) \
     check_changes(__LINE__, what, before.slice, memory.slice, sizeof memory.slice, OFFSETS(__VA_ARGS__))
 
-static uint8_t *lend(uint8_t *slice, size_t length)
+static uint8_t *lend(uint8_t *slice, display_length length)
 {
     return length == 0 ? NULL : slice;
 }
 #define LEND(slice) lend(memory.slice, n.slice), n.slice
 
-static int differ(const uint8_t *bytes, const uint8_t *others, size_t from, size_t to)
+static int differ(const uint8_t *bytes, const uint8_t *others, display_length from, size_t to)
 {
-    return from < to && memcmp(bytes + from, others + from, to - from) != 0;
+    return from < to && memcmp(bytes + from, others + from, to - (size_t)from) != 0;
 }
 #define CHANGED_BEHIND(slice) differ(memory.slice, before.slice, n.slice, sizeof memory.slice)
 
@@ -105,7 +105,7 @@ static uint32_t start(Lengths n)
     return answer;
 }
 
-static Fed feed_with(Lengths n, const uint8_t *piece, size_t length, size_t room)
+static Fed feed_with(Lengths n, const uint8_t *piece, display_length length, display_length room)
 {
     Fed fed, garbage;
     memset(&garbage, GARBAGE, sizeof garbage);
@@ -155,7 +155,7 @@ static void fresh(void)
 }
 
 // Enough reply room: the whole piece is consumed.
-static Fed feed(int line, const uint8_t *piece, size_t length)
+static Fed feed(int line, const uint8_t *piece, display_length length)
 {
     Fed fed = feed_with(RIGHT, piece, length, REPLIES);
     check(line, "answer of a feed", DISPLAY_OK, fed.answer);
@@ -165,7 +165,8 @@ static Fed feed(int line, const uint8_t *piece, size_t length)
 #define BYTES(...) (const uint8_t[]){__VA_ARGS__}, sizeof(const uint8_t[]){__VA_ARGS__}
 #define FEED(...) feed(__LINE__, BYTES(__VA_ARGS__))
 
-static void check_fed(int line, const char *what, Fed fed, uint32_t answer, size_t consumed, size_t replied)
+static void check_fed(int line, const char *what, Fed fed, uint32_t answer, display_length consumed,
+                      display_length replied)
 {
     check(line, what, answer, fed.answer);
     check(line, what, consumed, fed.consumed);

@@ -26,7 +26,7 @@ IS_UNSIGNED(DISPLAY_QUEUE_EMPTY);
 IS_UNSIGNED(DISPLAY_QUEUE_FULL);
 IS_UNSIGNED(DISPLAY_NO_REFUSAL);
 IS_UNSIGNED(DISPLAY_REFUSED_UNKNOWN_COMMAND);
-IS_UNSIGNED(DISPLAY_REFUSED_OFF_SCREEN);
+IS_UNSIGNED(DISPLAY_REFUSED_OUT_OF_BOUNDS);
 IS_UNSIGNED(DISPLAY_REFUSED_CORNERS_OUT_OF_ORDER);
 IS_UNSIGNED(DISPLAY_REFUSED_NUMBER_OUT_OF_RANGE);
 IS_UNSIGNED(DISPLAY_REFUSED_UNKNOWN_TYPE);
@@ -53,11 +53,12 @@ IS_UNSIGNED(DISPLAY_QUEUE_LOST_COUNT_HIGH);
 
 #define IS_CALL(name, ...) static_assert(std::is_same<decltype(name), uint32_t(__VA_ARGS__)>::value, #name)
 
-IS_CALL(display_start, uint8_t *, size_t, uint8_t *, size_t, uint8_t *, size_t, uint8_t *, size_t);
-IS_CALL(display_feed, uint8_t *, size_t, uint8_t *, size_t, uint8_t *, size_t, const uint8_t *, size_t, uint8_t *,
-        size_t, size_t *, size_t *);
-IS_CALL(display_arrive, const uint8_t *, size_t, uint8_t *, size_t, uint8_t, uint8_t *);
-IS_CALL(display_take, const uint8_t *, size_t, uint8_t *, size_t, uint8_t *, uint8_t *);
+IS_CALL(display_start, uint8_t *, uint64_t, uint8_t *, uint64_t, uint8_t *, uint64_t, uint8_t *, uint64_t);
+IS_CALL(display_feed, uint8_t *, uint64_t, uint8_t *, uint64_t, uint8_t *, uint64_t, const uint8_t *, uint64_t,
+        uint8_t *, uint64_t, uint64_t *, uint64_t *);
+IS_CALL(display_arrive, const uint8_t *, uint64_t, uint8_t *, uint64_t, uint8_t, uint8_t *);
+IS_CALL(display_take, const uint8_t *, uint64_t, uint8_t *, uint64_t, uint8_t *, uint8_t *);
+static_assert(std::is_same<display_length, uint64_t>::value, "display_length");
 
 static uint8_t glass[DISPLAY_FRAMEBUFFER_SIZE];
 static uint8_t store[DISPLAY_STORE_LEAST];
@@ -68,7 +69,7 @@ static uint8_t queue[DISPLAY_QUEUE_RECORD_SIZE];
 int main()
 {
     uint8_t byte = 0, signal = 0, replies[DISPLAY_REPLY_ROOM];
-    size_t consumed = 0, replied = 0;
+    display_length consumed = 0, replied = 0;
     bool done = display_start(glass, sizeof glass, store, sizeof store, state, sizeof state, queue,
                               sizeof queue) == DISPLAY_OK;
     done = done && display_arrive(state, sizeof state, queue, sizeof queue, 'A', &signal) == DISPLAY_OK;

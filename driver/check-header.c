@@ -18,6 +18,9 @@ enum { ACCEPTED = 1, DECLINED = 8, CONFIRM = 1 }; // the handshake of an upload
 #define STATE DISPLAY_STATE_RECORD_SIZE
 #define QUEUE DISPLAY_QUEUE_RECORD_SIZE
 
+// Beyond a length of 32 bits. A refused length is refused unread, so nothing need be there.
+#define FAR ((display_length)1 << 32)
+
 static const struct {
     const char *what;
     Lengths lengths;
@@ -37,6 +40,10 @@ static const struct {
     {"no queue", {GLASS, STORE, STATE, 0}, DISPLAY_BAD_RECORD},
     {"queue short", {GLASS, STORE, STATE, QUEUE - 1}, DISPLAY_BAD_RECORD},
     {"queue long", {GLASS, STORE, STATE, QUEUE + 1}, DISPLAY_BAD_RECORD},
+    {"framebuffer far too long", {GLASS + FAR, STORE, STATE, QUEUE}, DISPLAY_BAD_FRAMEBUFFER_SIZE},
+    {"store far too long", {GLASS, STORE + FAR, STATE, QUEUE}, DISPLAY_BAD_STORE_SIZE},
+    {"state far too long", {GLASS, STORE, STATE + FAR, QUEUE}, DISPLAY_BAD_RECORD},
+    {"queue far too long", {GLASS, STORE, STATE, QUEUE + FAR}, DISPLAY_BAD_RECORD},
     {"framebuffer, store, state", {GLASS + 1, STORE - 1, STATE + 1, QUEUE}, DISPLAY_BAD_FRAMEBUFFER_SIZE},
     {"store, state", {GLASS, DISPLAY_STORE_MOST + 1, STATE - 1, QUEUE}, DISPLAY_BAD_STORE_SIZE},
 };
@@ -177,7 +184,7 @@ static const struct {
     uint8_t stream[12];
 } refusals[] = {
     REFUSAL(DISPLAY_REFUSED_UNKNOWN_COMMAND, COMMAND, NO_COMMAND),
-    REFUSAL(DISPLAY_REFUSED_OFF_SCREEN, COMMAND, TEXT_CELL, 0, 1),
+    REFUSAL(DISPLAY_REFUSED_OUT_OF_BOUNDS, COMMAND, TEXT_CELL, 0, 1),
     REFUSAL(DISPLAY_REFUSED_CORNERS_OUT_OF_ORDER, COMMAND, RECTANGLE, 1, 5, 0, 4, 0),
     REFUSAL(DISPLAY_REFUSED_NUMBER_OUT_OF_RANGE, COMMAND, WRITE_BAR, 99, 0),
     REFUSAL(DISPLAY_REFUSED_UNKNOWN_TYPE, COMMAND, DELETE_FILE, 99, 0),

@@ -3,7 +3,7 @@
 
 #include <stdio.h>
 
-static void check_refused_start(size_t length, uint32_t answer)
+static void check_refused_start(display_length length, uint32_t answer)
 {
     static uint8_t before[sizeof store];
     unsigned calls_before = calls;

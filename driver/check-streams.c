@@ -101,12 +101,12 @@ static void run_through_driver(unsigned cluster, unsigned pace)
     drain();
 }
 
-static void check_stream(size_t store_length)
+static void check_stream(display_length store_length)
 {
     static const unsigned clusters[] = {1, 7, 80}, paces[] = {1, 4, 100};
     static uint8_t framebuffer[DISPLAY_FRAMEBUFFER_SIZE], files[sizeof store], state[DISPLAY_STATE_RECORD_SIZE];
     static uint8_t sent[WIRE];
-    size_t consumed, replied;
+    display_length consumed, replied;
     make_stream();
     fresh();
     CHECK("start", DISPLAY_OK, start(store_length));
@@ -120,7 +120,7 @@ static void check_stream(size_t store_length)
     CHECK("framebuffer", 0, memcmp(framebuffer, port.framebuffer, sizeof framebuffer) != 0);
     CHECK("store", 0, memcmp(files, store, sizeof files) != 0);
     CHECK("state", 0, memcmp(state, port.state, sizeof state) != 0);
-    CHECK_BYTES("replies", &replies, sent, replied);
+    CHECK_BYTES("replies", &replies, sent, (size_t)replied);
     CHECK("lost", 0, display_lost_count(port.queue) + port.overruns);
 }
 

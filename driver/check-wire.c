@@ -68,27 +68,28 @@ static uint32_t leave(uint32_t answer, const uint8_t *bytes, size_t count)
     return answer;
 }
 
-uint32_t __real_display_arrive(const uint8_t *, size_t, uint8_t *, size_t, uint8_t, uint8_t *);
-uint32_t __real_display_take(const uint8_t *, size_t, uint8_t *, size_t, uint8_t *, uint8_t *);
+uint32_t __real_display_arrive(const uint8_t *, display_length, uint8_t *, display_length, uint8_t, uint8_t *);
+uint32_t __real_display_take(const uint8_t *, display_length, uint8_t *, display_length, uint8_t *, uint8_t *);
 
-uint32_t __wrap_display_feed(uint8_t *glass, size_t glass_length, uint8_t *files, size_t files_length, uint8_t *state,
-                             size_t state_length, const uint8_t *piece, size_t piece_length, uint8_t *to,
-                             size_t to_length, size_t *consumed, size_t *replied)
+uint32_t __wrap_display_feed(uint8_t *glass, display_length glass_length, uint8_t *files, display_length files_length,
+                             uint8_t *state, display_length state_length, const uint8_t *piece,
+                             display_length piece_length, uint8_t *to, display_length to_length,
+                             display_length *consumed, display_length *replied)
 {
     uint32_t answer;
     late += allowance > 0 && host.count < given_by_arrivals;
     enter();
     answer = __real_display_feed(glass, glass_length, files, files_length, state, state_length, piece, piece_length, to,
                                  to_length, consumed, replied);
-    append(&replies, to, *replied);
+    append(&replies, to, (size_t)*replied);
     starved += to_length < DISPLAY_REPLY_ROOM;
-    unfed -= *consumed;
+    unfed -= (size_t)*consumed;
     just_taken = 0;
-    return leave(answer, to, *replied);
+    return leave(answer, to, (size_t)*replied);
 }
 
-uint32_t __wrap_display_arrive(const uint8_t *state, size_t state_length, uint8_t *queue, size_t queue_length,
-                               uint8_t byte, uint8_t *signal)
+uint32_t __wrap_display_arrive(const uint8_t *state, display_length state_length, uint8_t *queue,
+                               display_length queue_length, uint8_t byte, uint8_t *signal)
 {
     uint32_t answer;
     enter();
@@ -98,8 +99,8 @@ uint32_t __wrap_display_arrive(const uint8_t *state, size_t state_length, uint8_
     return answer;
 }
 
-uint32_t __wrap_display_take(const uint8_t *state, size_t state_length, uint8_t *queue, size_t queue_length,
-                             uint8_t *byte, uint8_t *signal)
+uint32_t __wrap_display_take(const uint8_t *state, display_length state_length, uint8_t *queue,
+                             display_length queue_length, uint8_t *byte, uint8_t *signal)
 {
     uint32_t answer;
     enter();
@@ -110,7 +111,7 @@ uint32_t __wrap_display_take(const uint8_t *state, size_t state_length, uint8_t 
     return leave(answer, signal, *signal != DISPLAY_SIGNAL_NONE);
 }
 
-uint32_t start(size_t store_length)
+uint32_t start(display_length store_length)
 {
     host.count = given.count = replies.count = given_by_arrivals = unfed = just_taken = 0;
     allowance = WIRE;

@@ -43,7 +43,7 @@ void check_bytes(const char *file, int line, const char *what, const Bytes *got,
 #define CHECK_BYTES(what, got, ...) check_bytes(__FILE__, __LINE__, what, got, __VA_ARGS__)
 
 // Forgets the wire, and starts the driver with a host that reads everything.
-uint32_t start(size_t store_length);
+uint32_t start(display_length store_length);
 
 // A display just started, with an empty store of the least size.
 void fresh(void);
@@ -64,9 +64,10 @@ void drain(void);
 void check_manners(void);
 
 // The library's own call, past the spies.
-uint32_t __real_display_feed(uint8_t *glass, size_t glass_length, uint8_t *files, size_t files_length, uint8_t *state,
-                             size_t state_length, const uint8_t *piece, size_t piece_length, uint8_t *to,
-                             size_t to_length, size_t *consumed, size_t *replied);
+uint32_t __real_display_feed(uint8_t *glass, display_length glass_length, uint8_t *files, display_length files_length,
+                             uint8_t *state, display_length state_length, const uint8_t *piece,
+                             display_length piece_length, uint8_t *to, display_length to_length,
+                             display_length *consumed, display_length *replied);
 
 void check_flow(void);
 void check_streams(void);

@@ -1,8 +1,11 @@
 // The C boundary of the display: four calls over lent memory, and the numbers that a driver needs. For C99 and C++11.
 //
+// `rt staticlib display` writes the library for x86-64 Linux. `make archive TARGET=..` writes it for a Cortex-M4, and
+// for 64-bit Arm and RISC-V under Linux (docs/BOARDS.md).
+//
 // One display is four slices of memory, all of them the driver's own:
 //
-//   glass   the framebuffer: DISPLAY_HEIGHT rows from the top down, DISPLAY_STRIDE bytes to a row; bit 7 of a byte is
+//   glass   the framebuffer (the boundary's name for it): DISPLAY_HEIGHT rows from the top down, DISPLAY_STRIDE bytes to a row; bit 7 of a byte is
 //           its leftmost pixel, and a set bit is a black one
 //   store   the fonts and bitmaps that hosts have uploaded: a directory of DISPLAY_DIRECTORY_SIZE bytes, then the
 //           files. A new store has a directory of zeros. Its length is the board's choice between least and most
@@ -22,7 +25,7 @@
 //
 // A driver's round: hand in what has come with display_arrive; send the replies of the round before; then, as often as
 // DISPLAY_REPLY_ROOM reply bytes are free, get a byte with display_take and obey it with display_feed. Send each signal
-// as it is given. Then bring framebuffer, contrast and backlight to the panel. port.h and port.c are such a driver.
+// as it is given. Then bring framebuffer, contrast and backlight to the LCD. port.h and port.c are such a driver.
 //
 //   - Replies go out before more is fed: lent less than DISPLAY_REPLY_ROOM bytes for them, display_feed consumes none
 //     of the bytes it is given and answers DISPLAY_NO_REPLY_ROOM.
@@ -32,14 +35,17 @@
 #ifndef DISPLAY_H
 #define DISPLAY_H
 
-#include <stddef.h>
 #include <stdint.h>
 
 #ifdef __cplusplus
 extern "C" {
 #endif
 
-// Sizes: pixels of the panel, bytes of all else.
+// Lengths and counts have 64 bits in the library for every processor, also where a size_t has 32.
+typedef uint64_t display_length;
+typedef char display_length_has_8_bytes[sizeof(display_length) == 8 ? 1 : -1];
+
+// Sizes: width and height in pixels, all else in bytes.
 #define DISPLAY_WIDTH 240u
 #define DISPLAY_HEIGHT 64u
 #define DISPLAY_STRIDE 30u
@@ -65,7 +71,7 @@ extern "C" {
 // Last refusal: why a command or character in the stream was not obeyed. The call that fed it answers as ever.
 #define DISPLAY_NO_REFUSAL 0u // none since start
 #define DISPLAY_REFUSED_UNKNOWN_COMMAND 16u
-#define DISPLAY_REFUSED_OFF_SCREEN 17u
+#define DISPLAY_REFUSED_OUT_OF_BOUNDS 17u
 #define DISPLAY_REFUSED_CORNERS_OUT_OF_ORDER 18u
 #define DISPLAY_REFUSED_NUMBER_OUT_OF_RANGE 19u
 #define DISPLAY_REFUSED_UNKNOWN_TYPE 20u // or a purge without its two guard bytes
@@ -100,8 +106,8 @@ extern "C" {
 // The records may hold anything before.
 // OK, or the first that applies of BAD_FRAMEBUFFER_SIZE, BAD_STORE_SIZE, BAD_RECORD (a length is wrong) and
 // BAD_DIRECTORY; nothing is written then.
-uint32_t display_start(uint8_t *glass, size_t glass_length, uint8_t *store, size_t store_length, uint8_t *state,
-                       size_t state_length, uint8_t *queue, size_t queue_length);
+uint32_t display_start(uint8_t *glass, display_length glass_length, uint8_t *store, display_length store_length,
+                       uint8_t *state, display_length state_length, uint8_t *queue, display_length queue_length);
 
 // Obeys the bytes of `piece`, the next stretch of the stream, in order. A stream may be cut anywhere, also inside a
 // command. What the bytes send is written to `replies` from its start; behind the first `*replied` bytes it keeps
@@ -109,21 +115,22 @@ uint32_t display_start(uint8_t *glass, size_t glass_length, uint8_t *store, size
 // OK: all bytes are consumed. NO_REPLY_ROOM: the first `*consumed` are done for good; send the replies, then feed the
 // others. The first that applies of BAD_FRAMEBUFFER_SIZE, BAD_STORE_SIZE, BAD_RECORD and BAD_DIRECTORY: nothing is
 // done, and both counts are 0. An empty piece does nothing but these checks, and needs no reply room.
-uint32_t display_feed(uint8_t *glass, size_t glass_length, uint8_t *store, size_t store_length, uint8_t *state,
-                      size_t state_length, const uint8_t *piece, size_t piece_length, uint8_t *replies,
-                      size_t replies_length, size_t *consumed, size_t *replied);
+uint32_t display_feed(uint8_t *glass, display_length glass_length, uint8_t *store, display_length store_length,
+                      uint8_t *state, display_length state_length, const uint8_t *piece, display_length piece_length,
+                      uint8_t *replies, display_length replies_length, display_length *consumed,
+                      display_length *replied);
 
 // Puts a byte that came on the wire at the end of the queue.
 // OK: it waits there; `*signal` may ask the host to pause. QUEUE_FULL: it is thrown away and counted as lost.
 // BAD_RECORD, of either record: nothing changes. `*signal` is NONE with both refusals.
-uint32_t display_arrive(const uint8_t *state, size_t state_length, uint8_t *queue, size_t queue_length, uint8_t byte,
-                        uint8_t *signal);
+uint32_t display_arrive(const uint8_t *state, display_length state_length, uint8_t *queue, display_length queue_length,
+                        uint8_t byte, uint8_t *signal);
 
 // Takes the byte that has waited longest out of the queue.
 // OK: it is `*byte`; `*signal` may ask the host to go on. QUEUE_EMPTY, and BAD_RECORD of either record: nothing
 // changes, `*byte` is 0 and `*signal` NONE.
-uint32_t display_take(const uint8_t *state, size_t state_length, uint8_t *queue, size_t queue_length, uint8_t *byte,
-                      uint8_t *signal);
+uint32_t display_take(const uint8_t *state, display_length state_length, uint8_t *queue, display_length queue_length,
+                      uint8_t *byte, uint8_t *signal);
 
 // Commands and characters refused since start; 65,535 is followed by 0.
 static inline unsigned display_refusal_count(const uint8_t *state)

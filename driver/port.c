@@ -78,18 +78,18 @@ static uint32_t take_piece(Port *port)
 // Where the reply room ends before the piece does, the rest stays for a round that has sent some.
 static uint32_t feed_piece(Port *port)
 {
-    size_t consumed, replied;
+    display_length consumed, replied;
     uint32_t answer = display_feed(port->framebuffer, sizeof port->framebuffer, port->store, port->store_length,
                                    port->state, sizeof port->state, port->piece, port->piece_length,
                                    port->transmit + port->transmit_length, room(port) - ROOM_FOR_ARRIVALS, &consumed,
                                    &replied);
-    port->transmit_length += replied;
-    port->piece_length -= consumed;
+    port->transmit_length += (size_t)replied;
+    port->piece_length -= (size_t)consumed;
     memmove(port->piece, port->piece + consumed, port->piece_length);
     return answer == DISPLAY_NO_REPLY_ROOM ? DISPLAY_OK : answer;
 }
 
-uint32_t port_start(Port *port, uint8_t *store, size_t store_length, PortSend *send, void *wire)
+uint32_t port_start(Port *port, uint8_t *store, display_length store_length, PortSend *send, void *wire)
 {
     port->store = store;
     port->store_length = store_length;

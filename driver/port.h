@@ -14,6 +14,8 @@
 
 #include "display.h"
 
+#include <stddef.h>
+
 #ifdef __cplusplus
 extern "C" {
 #endif
@@ -31,7 +33,7 @@ typedef struct {
     uint8_t state[DISPLAY_STATE_RECORD_SIZE];
     uint8_t queue[DISPLAY_QUEUE_RECORD_SIZE];
     uint8_t *store;
-    size_t store_length;
+    display_length store_length;
     PortSend *send;
     void *wire;
     uint32_t answer; // what port_poll says
@@ -53,7 +55,7 @@ typedef struct {
 // Power-up, with the receive interrupt off. `wire` goes to every call of `send`.
 // The answer of display_start. Unless it is DISPLAY_OK the store is as it was, and what to do about its size or its
 // broken directory is for the board to decide.
-uint32_t port_start(Port *port, uint8_t *store, size_t store_length, PortSend *send, void *wire);
+uint32_t port_start(Port *port, uint8_t *store, display_length store_length, PortSend *send, void *wire);
 
 // A byte has come on the wire. For the interrupt handler.
 void port_receive(Port *port, uint8_t byte);

@@ -33,8 +33,9 @@ impl Lent {
         self.buffer[self.from..].as_mut_ptr()
     }
 
-    pub fn length(&self) -> usize {
-        self.length
+    /// As the library counts: with 64 bits on every processor.
+    pub fn length(&self) -> u64 {
+        self.length as u64
     }
 
     pub fn contents(&self) -> &[u8] {

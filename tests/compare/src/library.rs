@@ -6,27 +6,27 @@ use crate::memory::Memory;
 mod c {
     extern "C" {
         pub fn display_start(
-            glass: *mut u8, glass_length: usize,
-            store: *mut u8, store_length: usize,
-            state: *mut u8, state_length: usize,
-            queue: *mut u8, queue_length: usize,
+            glass: *mut u8, glass_length: u64,
+            store: *mut u8, store_length: u64,
+            state: *mut u8, state_length: u64,
+            queue: *mut u8, queue_length: u64,
         ) -> u32;
         pub fn display_feed(
-            glass: *mut u8, glass_length: usize,
-            store: *mut u8, store_length: usize,
-            state: *mut u8, state_length: usize,
-            piece: *const u8, piece_length: usize,
-            replies: *mut u8, replies_length: usize,
-            consumed: *mut usize, replied: *mut usize,
+            glass: *mut u8, glass_length: u64,
+            store: *mut u8, store_length: u64,
+            state: *mut u8, state_length: u64,
+            piece: *const u8, piece_length: u64,
+            replies: *mut u8, replies_length: u64,
+            consumed: *mut u64, replied: *mut u64,
         ) -> u32;
         pub fn display_arrive(
-            state: *const u8, state_length: usize,
-            queue: *mut u8, queue_length: usize,
+            state: *const u8, state_length: u64,
+            queue: *mut u8, queue_length: u64,
             byte: u8, signal: *mut u8,
         ) -> u32;
         pub fn display_take(
-            state: *const u8, state_length: usize,
-            queue: *mut u8, queue_length: usize,
+            state: *const u8, state_length: u64,
+            queue: *mut u8, queue_length: u64,
             byte: *mut u8, signal: *mut u8,
         ) -> u32;
     }
@@ -79,7 +79,7 @@ impl Library {
         self.lend_panel(memory);
         self.piece.fill(piece, self.turn + 3);
         self.replies.fill(replies, self.turn + 4);
-        let (mut consumed, mut replied) = (Out::new(0xABCD_EF01_usize ^ self.turn as usize), Out::new(usize::MAX));
+        let (mut consumed, mut replied) = (Out::new(0xABCD_EF01_u64 ^ self.turn), Out::new(u64::MAX));
         let (glass, store, state) = (&mut self.glass, &mut self.store, &mut self.state);
         // SAFETY: five separate buffers, each with its true length; the two numbers are distinct and aligned.
         let answer = unsafe {
@@ -95,7 +95,8 @@ impl Library {
         guards(&[("glass", glass), ("store", store), ("state", state), ("piece", &self.piece), ("replies", &self.replies)])?;
         beside(&[("consumed", consumed.overrun()), ("replied", replied.overrun())])?;
         unchanged("piece", piece, &self.piece)?;
-        Ok(Returned { answer, consumed: consumed.value(), replied: replied.value(), ..Returned::default() })
+        let (consumed, replied) = (consumed.value() as usize, replied.value() as usize);
+        Ok(Returned { answer, consumed, replied, ..Returned::default() })
     }
 
     pub fn arrive(&mut self, memory: &Memory, byte: u8) -> Told {
