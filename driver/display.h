@@ -5,8 +5,8 @@
 //
 // One display is four slices of memory, all of them the driver's own:
 //
-//   glass   the framebuffer (the boundary's name for it): DISPLAY_HEIGHT rows from the top down, DISPLAY_STRIDE bytes to a row; bit 7 of a byte is
-//           its leftmost pixel, and a set bit is a black one
+//   glass   the framebuffer, by the name that it has at this boundary: DISPLAY_HEIGHT rows from the top down,
+//           DISPLAY_STRIDE bytes to a row; bit 7 of a byte is its leftmost pixel, and a set bit is a black one
 //   store   the fonts and bitmaps that hosts have uploaded: a directory of DISPLAY_DIRECTORY_SIZE bytes, then the
 //           files. A new store has a directory of zeros. Its length is the board's choice between least and most
 //   state   the state record: the command under way, settings, graphs, counters. What a board may read of it has an

@@ -19,13 +19,10 @@ use Rattle.rules.specs.World.{World, port, panel, Outcome, done, refused
 use Rattle.rules.specs.Drawing.{setColour}
 use Rattle.rules.specs.Settings.{flowOff, setContrast, backlightOn, backlightOff}
 use Rattle.rules.specs.Step.{obey, outside, code, noBitmap, argument, alone, byPhase, outcome, refuse, after, step}
+use Rattle.rules.specs.Sound.{Shaped}
 use Rattle.rules.specs.Events.{view, meaning, meant, unlessRefused, event}
 use Rattle.rules.proofs.Obeying.{Obeying, fair-quiet}
 use Rattle.rules.proofs.ByCommand.{clear-obeys, pixel-obeys, line-obeys, frame-obeys, solid-obeys, set-up-obeys, write-obeys, strip-obeys, shift-obeys, bitmap-obeys, corners-obey, inline-obeys, choose-obeys, place-obeys, character-obeys, upload-obeys, data-obeys, delete-obeys, purge-obeys, flow-obeys, serial-obeys}
-
--- sixteen bars
-abbrev pub Shaped : World → Type 0
-Shaped w = length (panel w .bars) ≡ 16
 
 commands : (c : Command) (a : List ℕ) (w : World) → Shaped w → Obeying (outside w) (meaning c a w) (obey c a (outside w))
 unfolding obey meaning setColour flowOff setContrast backlightOn backlightOff

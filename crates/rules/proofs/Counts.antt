@@ -12,7 +12,8 @@ use Rattle.rules.specs.Calls.{run}
 use Rattle.rules.specs.Events.{meant}
 use Rattle.rules.specs.History.{refusedIn, refusedOf, lastIn, lastOf}
 use Rattle.rules.proofs.Obeying.{Obeying}
-use Rattle.rules.proofs.ByByte.{Shaped, phase-obeys, shaped-step}
+use Rattle.rules.specs.Sound.{Shaped}
+use Rattle.rules.proofs.ByByte.{phase-obeys, shaped-step}
 
 pub record Counted (w v : World) (o : Outcome) : Type 0 where
   pub count : port v .refusals .count ≡ (port w .refusals .count + refusedIn o) % 65536

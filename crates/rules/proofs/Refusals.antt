@@ -3,23 +3,10 @@
 -- Assumes nothing.
 use mathlib.Core.Path.{_≡_, refl}
 use mathlib.Core.List.{List}
-use Prim.Native.Nat.{ℕ, _+_, _%_}
-use Rattle.state.specs.declared.Phase.the-variants.{Idle}
-use Rattle.state.specs.State.{noArgs}
-use Rattle.rules.specs.World.{World, refused, port, panel}
+use Prim.Native.Nat.{ℕ}
+use Rattle.rules.specs.World.{World, refused}
 use Rattle.rules.specs.Step.{outcome, refuse, after, step, replies}
-
-pub record Unaltered (w v : World) (n : ℕ) : Type 0 where
-  pub framebuffer : v .framebuffer ≡ w .framebuffer
-  pub store : v .store ≡ w .store
-  pub panel-same : panel v ≡ panel w
-  pub text : port v .text ≡ port w .text
-  pub drawing : port v .drawing ≡ port w .drawing
-  pub flow : port v .flow ≡ port w .flow
-  pub ended : port v .phase ≡ Idle
-  pub cleared : port v .args ≡ noArgs
-  pub counted : port v .refusals .count ≡ (port w .refusals .count + 1) % 65536
-  pub last : port v .refusals .last ≡ n
+use Rattle.rules.specs.Refused.{Unaltered}
 
 pub refuse-alters : (w : World) (n : ℕ) → Unaltered w (refuse w n) n
 unfolding refuse

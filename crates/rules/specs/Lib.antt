@@ -13,3 +13,4 @@ pub mod Events
 pub mod Chunks
 pub mod Sound
 pub mod Stays
+pub mod Refused

@@ -27,6 +27,10 @@ use Rattle.rules.specs.Files.{inUse, lacksSpace}
 abbrev pub Bytes : List ℕ → Type 0
 Bytes l = (i : ℕ) → getD l i 0 < 256
 
+-- sixteen bars
+abbrev pub Shaped : World → Type 0
+Shaped w = length (panel w .bars) ≡ 16
+
 -- ---- the port: every field fits its type
 
 abbrev pub PhaseFits : Phase → Type 0
