@@ -1,4 +1,5 @@
--- The interval of rows or columns that lie from one depth up to another, on one axis: what the contract of a private function cites.
+-- The interval of rows or columns that lie from one depth up to another, on one axis.
+-- What contracts of private functions cite, and no rule.
 -- Assumes nothing.
 use mathlib.Core.Bool.{Bool, cond}
 use Prim.Native.Nat.{ℕ, _+_, _-_, min, max}

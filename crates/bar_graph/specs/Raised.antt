@@ -1,4 +1,5 @@
--- A bar as its own rows show it, moved up to row 0: what the contract of a private function cites.
+-- A bar as its own rows show it, moved up to row 0.
+-- What contracts of private functions cite, and no rule.
 -- Assumes nothing.
 use Prim.Native.Nat.{ℕ, _-_}
 use Rattle.bar_graph.specs.declared.Bar.{Bar}

@@ -1,4 +1,5 @@
 -- Where a byte of data in line begins.
+-- What contracts of private functions cite, and no rule.
 -- Assumes nothing.
 use mathlib.Core.Path.{_≡_}
 use Prim.Native.Nat.{ℕ, _≤_}

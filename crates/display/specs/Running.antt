@@ -1,4 +1,5 @@
 -- A piece obeyed as far as the reply room goes.
+-- What contracts of private functions cite, and no rule.
 -- Assumes nothing.
 use mathlib.Core.Path.{_≡_}
 use mathlib.Core.List.{List}

@@ -1,4 +1,5 @@
 -- A state with other drawing settings.
+-- What contracts of private functions cite, and no rule.
 -- Assumes nothing.
 use Rattle.state.specs.declared.Drawing.{Drawing}
 use Rattle.state.specs.declared.State.{State}

@@ -1,4 +1,5 @@
 -- A rectangle on a framebuffer of h rows, and a state with one bar or strip put anew.
+-- What contracts of private functions cite, and no rule.
 -- Assumes nothing.
 use mathlib.Core.Bool.{Bool, true, _&&_}
 use Prim.Native.Nat.{ℕ}

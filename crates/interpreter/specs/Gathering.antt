@@ -1,4 +1,5 @@
 -- A state that gathers arguments.
+-- What contracts of private functions cite, and no rule.
 -- Assumes nothing.
 use mathlib.Core.List.{List}
 use Prim.Native.Nat.{ℕ}

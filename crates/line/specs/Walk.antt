@@ -1,4 +1,5 @@
 -- The walk along a line: its start, its step, and the pixels that it comes to.
+-- What contracts of private functions cite, and no rule.
 -- Assumes nothing.
 use mathlib.Core.Bool.{Bool, cond}
 use Prim.Native.Nat.{ℕ, _+_, _<_}

@@ -1,4 +1,5 @@
 -- A refusal answered by 8.
+-- What contracts of private functions cite, and no rule.
 -- Assumes nothing.
 use Prim.Native.Nat.{ℕ}
 use Rattle.state.specs.declared.State.{State}

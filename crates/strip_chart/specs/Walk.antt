@@ -1,4 +1,5 @@
 -- The walk over a row of a strip chart, from the column that goes out to the one that comes in.
+-- What contracts of private functions cite, and no rule.
 -- Assumes nothing.
 use mathlib.Core.Bool.{Bool, cond}
 use mathlib.Core.List.{List}

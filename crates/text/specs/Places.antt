@@ -1,4 +1,5 @@
 -- The code's place of a character, from the rules' one.
+-- What contracts of private functions cite, and no rule.
 -- Assumes nothing.
 use Rattle.rules.specs.Text.{Place as Ruled, place, nowhere}
 use Rattle.text.specs.declared.Place.{Place}
