@@ -2,7 +2,6 @@
 -- Assumes nothing.
 use mathlib.Core.Path.{_≡_, _∙_, refl, sym, ap, subst}
 use mathlib.Core.List.{List, [], _∷_, _++_, append-nil}
-use mathlib.Core.Bool.{true}
 use Prim.Native.Nat.{ℕ, suc, _+_, _-_, _<_, _≤_}
 use native.Mathlib.Omega.{arith}
 use native.Mathlib.Nat.{add-zero}
@@ -10,12 +9,11 @@ use lib.ListN.{length, getD, take, drop, set, length-append, drop-of-length-le}
 use lib.Seq.{sets, length-sets, take-suc, drop-cons}
 use borrow.Author.Tests.{eq-eqb, ne-eqb, lt-ltb, le-ltb}
 use Rattle.pixels.specs.Framebuffer.{height}
-use Rattle.rules.specs.World.{World, port}
+use Rattle.rules.specs.World.{World}
 use Rattle.rules.specs.Step.{step, replies, outcome}
 use Rattle.rules.specs.Calls.{run, said, taken}
 use Rattle.rules.proofs.Streams.{run-append, said-append}
 use Rattle.rules.proofs.Replies.{replies-most}
-use Rattle.rules.proofs.Good.{parts}
 use Rattle.outcome.specs.declared.Reply.{Reply}
 use Rattle.outcome.specs.Outcome.{sentBy}
 use Rattle.outcome.specs.Contract.{Came}

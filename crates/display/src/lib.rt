@@ -1,4 +1,5 @@
 // The four calls of a board: start, feed, arrive, take. Any bytes, of any length, may be lent to them.
+use canvas::HEIGHT;
 use canvas::LENGTH;
 use directory::is_valid;
 use interpreter::step;
@@ -38,8 +39,8 @@ pub const BAD_DIRECTORY: u32 = 4;
 
 pub const NO_REPLY_ROOM: u32 = 5;
 
-// The framebuffer's rows.
-pub const ROWS: u8 = 64;
+// The framebuffer's rows, in the type of a height.
+pub const ROWS: u8 = HEIGHT as u8;
 
 // The store's bytes, at least and at most.
 pub const STORE_LEAST: usize = 1024;

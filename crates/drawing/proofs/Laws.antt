@@ -27,19 +27,19 @@ pub clear-is : (g g' s : List ℕ) (st : State) → g' ≡ fill everywhere false
 unfolding clear
 clear-is g g' s st e = rw e
 
-pub colour-is : (w : World) (b : ℕ) (c : Colour) → c ≡ colourOf b → setColour w b ≡ quietly (putDrawing w (drawing (c .black) (port w .drawing .x) (port w .drawing .y)))
+pub colour-is : (w : World) (b : ℕ) (c : Colour) → c ≡ colourOf b → setColour w b ≡ quietly (putDrawing w (drawing c (port w .drawing .x) (port w .drawing .y)))
 unfolding setColour
 colour-is w b c e = rw e
 
-pub pixel-is : (g g' s : List ℕ) (st : State) (x y : ℕ) (c : Bool) → c ≡ st .port .drawing .black → g' ≡ fill (point x y) c g
+pub pixel-is : (g g' s : List ℕ) (st : State) (x y : ℕ) → g' ≡ fill (point x y) (st .port .drawing .colour .black) g
     → drawPixel (world g s st) x y ≡ quietly (world g' s st)
 unfolding drawPixel
-pixel-is g g' s st x y c e f = rw (f, e)
+pixel-is g g' s st x y e = rw e
 
-pub line-is : (g g' s : List ℕ) (st : State) (x1 y1 x2 y2 : ℕ) (c : Bool) → c ≡ st .port .drawing .black → g' ≡ fill (line x1 y1 x2 y2) c g
-    → drawLine (world g s st) x1 y1 x2 y2 ≡ quietly (putDrawing (world g' s st) (drawing (st .port .drawing .black) x2 y2))
+pub line-is : (g g' s : List ℕ) (st : State) (x1 y1 x2 y2 : ℕ) → g' ≡ fill (line x1 y1 x2 y2) (st .port .drawing .colour .black) g
+    → drawLine (world g s st) x1 y1 x2 y2 ≡ quietly (putDrawing (world g' s st) (drawing (st .port .drawing .colour) x2 y2))
 unfolding drawLine
-line-is g g' s st x1 y1 x2 y2 c e f = rw (f, e)
+line-is g g' s st x1 y1 x2 y2 e = rw e
 
 pub frame-refused : (w : World) (c x1 y1 x2 y2 : ℕ) (t : Bool) → t ≡ ordered x1 y1 x2 y2 → not t ≡ true → drawFrame w c x1 y1 x2 y2 ≡ refused 18 []
 unfolding drawFrame

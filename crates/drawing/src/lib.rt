@@ -38,23 +38,15 @@ pub fn set_colour(state: State, colour: u8) -> Outcome
 {
     let c = Colour::from_byte(colour);
     let mut drawing = state.port.drawing;
-    drawing.black = c.black;
+    drawing.colour = c;
     done(with_drawing(state, drawing))
-}
-
-// The drawing colour.
-fn ink(state: State) -> Colour
-    ensures { λ r. ⌜ r .black ≡ state .port .drawing .black ⌝ }
-{
-    Colour {
-        black: state.port.drawing.black,
-    }
 }
 
 pub fn draw_pixel(framebuffer: &mut [u8], state: State, x: u8, y: u8) -> Outcome
     ensures { λ r. ⌜ Paints (λ w. drawPixel w x y) state (now (framebuffer .entry)) (now (framebuffer .exit)) r ⌝ }
 {
-    plot(framebuffer, x as u16, y as u16, ink(state));
+    let colour = state.port.drawing.colour;
+    plot(framebuffer, x as u16, y as u16, colour);
     done(state)
 }
 
@@ -62,8 +54,9 @@ pub fn draw_pixel(framebuffer: &mut [u8], state: State, x: u8, y: u8) -> Outcome
 pub fn draw_line(framebuffer: &mut [u8], state: State, x1: u8, y1: u8, x2: u8, y2: u8) -> Outcome
     ensures { λ r. ⌜ Paints (λ w. drawLine w x1 y1 x2 y2) state (now (framebuffer .entry)) (now (framebuffer .exit)) r ⌝ }
 {
-    line::draw_line(framebuffer, x1, y1, x2, y2, ink(state));
     let mut drawing = state.port.drawing;
+    let colour = drawing.colour;
+    line::draw_line(framebuffer, x1, y1, x2, y2, colour);
     drawing.x = x2;
     drawing.y = y2;
     done(with_drawing(state, drawing))

@@ -22,7 +22,6 @@ use refusals::NO_SUCH_FILE;
 use state::Phase;
 use state::State;
 use state::inline_bytes;
-ghost use mathlib.Core.Path.{_≡_};
 ghost use Rattle.rules.specs.Pictures.{bitmapIn, showBitmap, beginInline, inlineData};
 ghost use Rattle.outcome.specs.Contract.{Sets, Paints, Shows};
 

@@ -123,7 +123,7 @@ module _ (s : State) (z : Sized s) where
   text-read = ap textOf at-text ∙ text-back (s .port .text) (otherBytes (s .port) ++ panelBytes (s .panel))
 
   pub drawing-read : drawingOf (drop 34 (encodeOf s)) ≡ s .port .drawing
-  drawing-read = ap drawingOf at-drawing ∙ rw (bit-back (s .port .drawing .black))
+  drawing-read = ap drawingOf at-drawing ∙ rw (bit-back (s .port .drawing .colour .black))
 
   pub flow-read : flowOf (drop 37 (encodeOf s)) ≡ s .port .flow
   flow-read = ap flowOf at-flow ∙ rw (bit-back (s .port .flow .on))

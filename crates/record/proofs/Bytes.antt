@@ -150,7 +150,7 @@ port-written p f =
     (all-append (dataBytes (p .phase)) _ (data-fits (p .phase) (f .phase-fits)) (upload-written (p .phase) (f .phase-fits)))))
     (all-append (textBytes (p .text)) (otherBytes p)
     (t .0, (low-fits (p .text .x), (high-fits (p .text .x) (f .text-fits .x-fits), (t .1 .0, (t .1 .1 .0, (t .1 .1 .1 .0, (t .1 .1 .1 .1 .0, (t .1 .1 .1 .1 .1 .0, (t .1 .1 .1 .1 .1 .1 .0, (bit-fits (p .text .wrap), (bit-fits (p .text .scroll), tt)))))))))))
-    (bit-fits (p .drawing .black), (o .0, (o .1 .0, (bit-fits (p .flow .on), (o .1 .1 .0, (o .1 .1 .1 .0, (low-fits (p .refusals .count), (high-fits (p .refusals .count) (f .count-fits), (o .1 .1 .1 .1 .0, tt))))))))))
+    (bit-fits (p .drawing .colour .black), (o .0, (o .1 .0, (bit-fits (p .flow .on), (o .1 .1 .0, (o .1 .1 .1 .0, (low-fits (p .refusals .count), (high-fits (p .refusals .count) (f .count-fits), (o .1 .1 .1 .1 .0, tt))))))))))
 
 panel-written : (q : Panel) → FitsPanel q → All Byte (panelBytes q)
 unfolding panelBytes

@@ -7,6 +7,8 @@ use native.Mathlib.Omega.{arith}
 use lib.Dec.{eqb}
 use lib.ListN.{length, drop, List·getD-eq-default}
 use lib.Seq.{getD-drop}
+use Rattle.canvas.specs.declared.Colour.{Colour}
+use Rattle.canvas.specs.Colour.{colourOf}
 use Rattle.queue.specs.Record.{at, bytesFrom}
 use Rattle.queue.proofs.Tables.{at-bytesFrom}
 use Rattle.state.specs.declared.Phase.the-variants.{Inline, Upload}
@@ -48,9 +50,9 @@ module _ (l w : List ℕ) (e : w ≡ bytesFrom l 0 11) where
   unfolding bytesFrom
   text-is x f = rw (f, e)
 
-  pub drawing-is : drawingOf w ≡ drawingOf l
+  pub drawing-is : (c : Colour) → c ≡ colourOf (at w 0) → record { colour = c; x = at w 1; y = at w 2 } ≡ drawingOf l
   unfolding bytesFrom
-  drawing-is = rw e
+  drawing-is c f = rw (f, e)
 
   pub flow-is : flowOf w ≡ flowOf l
   unfolding bytesFrom

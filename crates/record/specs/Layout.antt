@@ -29,7 +29,7 @@ uploadAt = 15
 abbrev pub textAt : ℕ
 textAt = 23
 
--- drawing: black, x, y
+-- drawing: colour (1 black, 0 white), x, y
 abbrev pub drawingAt : ℕ
 drawingAt = 34
 

@@ -5,6 +5,7 @@ use mathlib.Core.List.{List, [], _∷_}
 use Prim.Native.Nat.{ℕ, zero, suc, _+_, _*_}
 use lib.Dec.{eqb}
 use lib.ListN.{drop}
+use Rattle.canvas.specs.Colour.{colourOf}
 use Rattle.queue.specs.declared.Flow.{Flow}
 use Rattle.queue.specs.Record.{at}
 use Rattle.state.specs.declared.Phase.{Phase}
@@ -71,7 +72,7 @@ textOf l =
     }
 
 abbrev pub drawingOf : List ℕ → Drawing
-drawingOf l = record { black = flagAt l 0; x = at l 1; y = at l 2 }
+drawingOf l = record { colour = colourOf (at l 0); x = at l 1; y = at l 2 }
 
 abbrev pub flowOf : List ℕ → Flow
 flowOf l = record { on = flagAt l 0; full = at l 1; empty = at l 2 }

@@ -54,7 +54,7 @@ textBytes t =
 -- drawing, flow, refusals
 abbrev pub otherBytes : Port → List ℕ
 otherBytes p =
-    bit (p .drawing .black) ∷ p .drawing .x ∷ p .drawing .y
+    bit (p .drawing .colour .black) ∷ p .drawing .x ∷ p .drawing .y
     ∷ bit (p .flow .on) ∷ p .flow .full ∷ p .flow .empty
     ∷ low (p .refusals .count) ∷ high (p .refusals .count) ∷ p .refusals .last ∷ []
 

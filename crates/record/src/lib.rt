@@ -36,7 +36,7 @@ pub const UPLOAD: usize = 15;
 // Text: font, x (2), y, left, top, char_space, line_space, scroll_row, wrap, scroll.
 pub const TEXT: usize = 23;
 
-// Drawing: black, x, y.
+// Drawing: colour (1 black, 0 white), x, y.
 pub const DRAWING: usize = 34;
 
 // Flow: on, full, empty.

@@ -17,6 +17,7 @@ use super::STRIP_SIZE;
 use super::TEXT;
 use super::UPLOAD;
 use bar_graph::Bar;
+use canvas::Colour;
 use queue::Flow;
 use state::ARGUMENTS;
 use state::BARS;
@@ -180,7 +181,7 @@ fn drawing_of(r: &[u8]) -> Drawing
 {
     let l = part_at(r, DRAWING);
     Drawing {
-        black: l[0] == 1,
+        colour: Colour::from_byte(l[0]),
         x: l[1],
         y: l[2],
     }

@@ -178,7 +178,7 @@ fn other_bytes(p: Port) -> [u8; 9]
     ensures { λ r. ⌜ r ≡ otherBytes p ⌝ }
 {
     [
-        bit(p.drawing.black),
+        bit(p.drawing.colour.black),
         p.drawing.x,
         p.drawing.y,
         bit(p.flow.on),

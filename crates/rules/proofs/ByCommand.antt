@@ -48,11 +48,11 @@ clear-obeys w = fair-painted w _ refl refl refl everywhere (clear-footprint (w .
 
 pub pixel-obeys : (w : World) (x y : ℕ) → Obeying w (painted (point x y)) (drawPixel w x y)
 unfolding drawPixel
-pixel-obeys w x y = fair-painted w _ refl refl refl (point x y) (outside-put (point x y) (plain (port w .drawing .black)) (w .framebuffer))
+pixel-obeys w x y = fair-painted w _ refl refl refl (point x y) (outside-put (point x y) (plain (port w .drawing .colour .black)) (w .framebuffer))
 
 pub line-obeys : (w : World) (x1 y1 x2 y2 : ℕ) → Obeying w (painted (line x1 y1 x2 y2)) (drawLine w x1 y1 x2 y2)
 unfolding drawLine
-line-obeys w x1 y1 x2 y2 = fair-painted w _ refl refl refl (line x1 y1 x2 y2) (outside-put (line x1 y1 x2 y2) (plain (port w .drawing .black)) (w .framebuffer))
+line-obeys w x1 y1 x2 y2 = fair-painted w _ refl refl refl (line x1 y1 x2 y2) (outside-put (line x1 y1 x2 y2) (plain (port w .drawing .colour .black)) (w .framebuffer))
 
 pub frame-obeys : (w : World) (c x1 y1 x2 y2 : ℕ) → Obeying w (painted (frame x1 y1 x2 y2)) (drawFrame w c x1 y1 x2 y2)
 unfolding drawFrame

@@ -4,6 +4,7 @@ use mathlib.Core.List.{List, [], _∷_}
 use mathlib.Core.Bool.{Bool, true, false}
 use Prim.Native.Nat.{ℕ}
 use lib.ListN.{getD, replicate}
+use Rattle.canvas.specs.Colour.{colour}
 use Rattle.bar_graph.specs.declared.Bar.{Bar}
 use Rattle.queue.specs.declared.Flow.{Flow}
 use Rattle.state.specs.declared.Phase.{Phase}
@@ -59,7 +60,7 @@ startPort h =
       phase = Idle;
       args = noArgs;
       text = startText h;
-      drawing = record { black = true; x = 0; y = 0 };
+      drawing = record { colour = colour true; x = 0; y = 0 };
       flow = record { on = false; full = 0; empty = 0 };
       refusals = record { count = 0; last = 0 };
     }

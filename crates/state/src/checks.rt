@@ -13,6 +13,7 @@ use super::arguments_of;
 use super::command_of;
 use bar_graph::Bar;
 use bar_graph::length_of;
+use canvas::WIDTH;
 use queue::Flow;
 ghost use mathlib.Core.Path.{_≡_};
 ghost use mathlib.Core.Bool.{_&&_, _||_};
@@ -192,7 +193,7 @@ fn are_corners_sound(height: u8, x1: u8, y1: u8, x2: u8, y2: u8) -> bool
     ensures { λ r. ⌜ r ≡ soundCorners height x1 y1 x2 y2 ⌝ }
 {
     let ordered = both(x1 < x2, y1 < y2);
-    both(both(ordered, x2 < 240), y2 < height)
+    both(both(ordered, word(x2) < WIDTH), y2 < height)
 }
 
 fn is_set_up_sound(bar: Bar, height: u8) -> bool

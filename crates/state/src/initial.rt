@@ -14,6 +14,7 @@ use super::State;
 use super::Strip;
 use super::Text;
 use bar_graph::Bar;
+use canvas::Colour;
 use queue::Flow;
 ghost use mathlib.Core.Path.{_≡_};
 ghost use Rattle.state.specs.State.{startText, startPort, startPanel, startState};
@@ -43,7 +44,7 @@ fn start_port(height: u8) -> Port
         args: [0; ARGUMENTS],
         text: start_text(height),
         drawing: Drawing {
-            black: true,
+            colour: Colour::BLACK,
             x: 0,
             y: 0,
         },

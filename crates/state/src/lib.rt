@@ -3,6 +3,7 @@ mod checks;
 mod initial;
 
 use bar_graph::Bar;
+use canvas::Colour;
 use checks::are_thresholds;
 use checks::both;
 pub use checks::inline_bytes;
@@ -182,7 +183,7 @@ pub struct Text {
 
 // The drawing colour, and the point that the last line ended at.
 pub struct Drawing {
-    pub black: bool,
+    pub colour: Colour,
     pub x: u8,
     pub y: u8,
 }

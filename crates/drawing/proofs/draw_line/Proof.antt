@@ -4,9 +4,6 @@ use borrow.Author.Needs.{needs}
 use Rattle.drawing.proofs.draw_line.Statement.{statement}
 use Rattle.drawing.proofs.draw_line.Tie as tie
 
-ink-requires : tie.Need-ink-requires
-ink-requires c κs = search needs
-
 draw-line-requires : tie.Need-draw-line-requires
 draw-line-requires c κs = search needs
 
@@ -20,13 +17,12 @@ same-length : tie.Need-same-length
 same-length c = search needs
 
 returns : tie.Need-returns
-returns c = paints-done _ (done-with (c .before .with-drawing .ensures) (c .done .ensures)) (λ s. line-is _ _ _ _ _ _ _ _ _ (c .before .before .before .before .before .before .ink .ensures) (c .before .before .before .before .before .draw-line .ensures))
+returns c = paints-done _ (done-with (c .before .with-drawing .ensures) (c .done .ensures)) (λ s. line-is _ _ _ _ _ _ _ _ (c .before .before .before .before .draw-line .ensures))
 
 pub draw-line-spec : {M : Type 1} → statement M
 draw-line-spec =
     tie.close
     (tie.spec
-    ink-requires
     draw-line-requires
     with-drawing-requires
     done-requires

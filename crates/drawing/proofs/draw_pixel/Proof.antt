@@ -4,9 +4,6 @@ use borrow.Author.Needs.{needs}
 use Rattle.drawing.proofs.draw_pixel.Statement.{statement}
 use Rattle.drawing.proofs.draw_pixel.Tie as tie
 
-ink-requires : tie.Need-ink-requires
-ink-requires c κs = search needs
-
 plot-requires : tie.Need-plot-requires
 plot-requires c κs = search needs
 
@@ -17,7 +14,7 @@ same-length : tie.Need-same-length
 same-length c = search needs
 
 returns : tie.Need-returns
-returns c = paints-done _ (c .done .ensures) (λ s. pixel-is _ _ _ _ _ _ _ (c .before .before .before .before .ink .ensures) (c .before .before .before .plot .ensures))
+returns c = paints-done _ (c .done .ensures) (λ s. pixel-is _ _ _ _ _ _ (c .before .before .before .plot .ensures))
 
 pub draw-pixel-spec : {M : Type 1} → statement M
-draw-pixel-spec = tie.close (tie.spec ink-requires plot-requires done-requires same-length returns)
+draw-pixel-spec = tie.close (tie.spec plot-requires done-requires same-length returns)
