@@ -73,6 +73,11 @@ impl Book {
         }
     }
 
+    /// Which bars are sure now.
+    pub fn sure(&self) -> [bool; 16] {
+        self.bars.map(|entry| entry.is_some_and(|entry| entry.sure))
+    }
+
     /// One byte was consumed; an error says what does not hold.
     pub fn byte(&mut self, step: &Step, glass: &Glass, files: &Files, state: &State) -> Result<(), String> {
         let touched = step.outcome.clone().unwrap_or(Footprint::Nothing);

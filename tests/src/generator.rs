@@ -25,6 +25,11 @@ pub fn program_stream(font: &[u8], seed: u64) -> Vec<u8> {
     stream(&Board::fresh(font, vec![0; 32768]), &mut Prng::new(seed))
 }
 
+/// A stream from a fresh start on a store of 1,024 zero bytes.
+pub fn small_stream(font: &[u8], seed: u64) -> Vec<u8> {
+    stream(&Board::fresh(font, vec![0; 1024]), &mut Prng::new(seed))
+}
+
 /// A stream from a fresh start, on a store of any size with files and leftovers.
 pub fn fresh_scene(font: &[u8], seed: u64) -> Scene {
     let mut rng = Prng::new(seed);
