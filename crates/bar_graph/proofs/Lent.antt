@@ -3,23 +3,22 @@
 use mathlib.Core.Path.{_≡_, sym, _∙_, subst}
 use mathlib.Core.Bool.{Bool, true, false, cond, _&&_, and-false, and-true}
 use mathlib.Core.List.{List}
-use Prim.Native.Nat.{ℕ, _+_, _-_, _<_, _≤_, min}
+use Prim.Native.Nat.{ℕ, _+_, _-_, _<_, _≤_}
 use native.Mathlib.Omega.{arith}
 use native.Mathlib.Decide.{decLt}
 use lib.Dec.{eqb, ltb}
 use lib.ListN.{length}
 use borrow.Rule.Slice.PartMut.{putMid, midOf}
-use Rattle.pixels.specs.Framebuffer.{Region, On, put, plain}
-use Rattle.pixels.specs.Regions.{within, box}
+use Rattle.pixels.specs.Framebuffer.{Region, put, plain}
+use Rattle.pixels.specs.Regions.{within}
 use Rattle.pixels.proofs.Pictures.{Bytes}
 use Rattle.pixels.proofs.Painting.{put-region, put-off}
 use Rattle.pixels.proofs.Intervals.{within-yes, within-before, within-after}
 use Rattle.pixels.proofs.Rows.{rows-put}
-use Rattle.pixels.proofs.Touch.{rectangle-true}
 use Rattle.canvas.specs.declared.Rows.{Rows}
 use Rattle.canvas.specs.Canvas.{RowsAre}
 use Rattle.bar_graph.specs.declared.Bar.{Bar}
-use Rattle.bar_graph.specs.Bars.{vertical, fromFar, rectangleOf, depth, lengthOf, heldTo, stripe, writeOf}
+use Rattle.bar_graph.specs.Bars.{rectangleOf, depth, lengthOf, heldTo, stripe, writeOf}
 use Rattle.bar_graph.specs.Raised.{raisedOf}
 
 pub raised-is : (b : Bar) (n : ℕ) → n ≡ b .y2 - b .y1 → _≡_ {A = Bar} (record { kind = b .kind; x1 = b .x1; y1 = 0; x2 = b .x2; y2 = n; value = b .value }) (raisedOf b)

@@ -1,7 +1,7 @@
 -- A bar as its own rows show it, moved up to row 0.
 -- What contracts of private functions cite, and no rule.
 -- Assumes nothing.
-use Prim.Native.Nat.{ℕ, _-_}
+use Prim.Native.Nat.{_-_}
 use Rattle.bar_graph.specs.declared.Bar.{Bar}
 
 abbrev pub raisedOf : Bar → Bar

@@ -1,14 +1,14 @@
 -- One step: what obeys its event keeps the ledger right.
 -- Assumes nothing.
 use mathlib.Core.Path.{_≡_, refl, sym, ap, _∙_}
-use mathlib.Core.Bool.{Bool, true, false, cond, not, _&&_, _||_, false≢true}
+use mathlib.Core.Bool.{Bool, true, false, cond, not, _||_, false≢true}
 use mathlib.Core.List.{List}
 use mathlib.Core.Logic.{_≢_}
 use Prim.Native.Nat.{ℕ, min}
 use native.Mathlib.Omega.{arith}
 use lib.Dec.{eqb}
 use lib.ListN.{length}
-use borrow.Author.Tests.{eqb-true, eqb-false, not-true}
+use borrow.Author.Tests.{eqb-true, not-true}
 use Rattle.pixels.specs.Framebuffer.{Region, On, pixel}
 use Rattle.pixels.specs.Footprints.{SameOutside}
 use Rattle.pixels.proofs.Tests.{by-test, and-one, and-two}

@@ -1,8 +1,7 @@
 -- The ledger is not empty of promises: a bar written with 0, and then touched by nothing but its own writes, is known.
 -- Assumes nothing.
-use mathlib.Core.Path.{_≡_, refl, _∙_, ap}
-use mathlib.Core.Logic.{_≢_}
-use mathlib.Core.Bool.{true, false, cond, or-true}
+use mathlib.Core.Path.{_≡_, refl}
+use mathlib.Core.Bool.{true, false, or-true}
 use mathlib.Core.List.{List, [], _∷_, _++_}
 use Prim.Native.Nat.{ℕ, suc}
 use lib.Dec.{eqb}
@@ -11,7 +10,6 @@ use lib.Seq.{take-length}
 use borrow.Author.Tests.{eqb-false, eq-eqb, ne-eqb}
 use Rattle.pixels.specs.Framebuffer.{Region}
 use Rattle.pixels.proofs.Tests.{by-test}
-use Rattle.bar_graph.specs.declared.Bar.{Bar}
 use Rattle.bar_graph.specs.Bars.{rectangleOf}
 use Rattle.bar_ledger.specs.Ledger.{View, Event, quiet, setUp, wrote, painted, Entry, Ledger, reaches, touched, written, recorded, opened, along, ledgerAlong}
 use Rattle.bar_ledger.specs.Claim.{Agrees, ledgerAt}

@@ -1,10 +1,10 @@
 -- THE THEOREM over every list of inputs, for any machine whose every step obeys its event.
 -- Assumes nothing.
-use mathlib.Core.Path.{_≡_, refl}
+use mathlib.Core.Path.{refl}
 use mathlib.Core.Bool.{true, false≢true}
 use mathlib.Core.List.{List, [], _∷_}
 use Prim.Native.Nat.{ℕ}
-use lib.ListN.{take, drop}
+use lib.ListN.{take}
 use Rattle.bar_graph.proofs.Writes.{write-changes}
 use Rattle.bar_ledger.specs.Ledger.{View, Event, wrote, Ledger, recorded, opened, along, ledgerAlong}
 use Rattle.bar_ledger.specs.Claim.{Shown, Thrifty, Agrees}

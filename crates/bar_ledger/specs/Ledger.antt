@@ -1,6 +1,6 @@
 -- The ledger (the rules paper's book): for each bar its type, corners and value, and whether its rectangle is known to show them (the paper's sure).
 -- Assumes nothing.
-use mathlib.Core.Bool.{Bool, true, false, cond, not, _&&_, _||_}
+use mathlib.Core.Bool.{Bool, false, cond, not, _&&_, _||_}
 use mathlib.Core.List.{List, [], _∷_}
 use Prim.Native.Nat.{ℕ}
 use lib.Dec.{eqb}

@@ -29,16 +29,16 @@ at-all P d (a ∷ l) z h (suc i) = at-all P d l z (h .1) i
 phase-fits : (p : Phase) → PhaseFits p → FitsPhase p
 phase-fits Idle h = tt
 phase-fits Prefix h = tt
-phase-fits (Gathering c g) h = h
-phase-fits (Inline x1 y1 x2 y2 d) h = h
-phase-fits (Upload k n z s w b) h = h
+phase-fits (Gathering code got) h = h
+phase-fits (Inline x1 y1 x2 y2 came) h = h
+phase-fits (Upload kind number size stored waiting byte) h = h
 
 fits-phase : (p : Phase) → FitsPhase p → PhaseFits p
 fits-phase Idle h = tt
 fits-phase Prefix h = tt
-fits-phase (Gathering c g) h = h
-fits-phase (Inline x1 y1 x2 y2 d) h = h
-fits-phase (Upload k n z s w b) h = h
+fits-phase (Gathering code got) h = h
+fits-phase (Inline x1 y1 x2 y2 came) h = h
+fits-phase (Upload kind number size stored waiting byte) h = h
 
 slot-fits : (s : BarSlot) → BarFits s → FitsSlot s
 slot-fits s f = (f .kind, (f .x1, (f .y1, (f .x2, (f .y2, (f .value, tt))))))

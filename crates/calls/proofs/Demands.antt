@@ -3,20 +3,18 @@
 use mathlib.Core.Path.{_≡_, refl, sym, ap, _∙_, subst}
 use mathlib.Core.List.{List, []}
 use mathlib.Core.Bool.{Bool, true, false, cond, not, _&&_, _||_, true≢false}
-use Prim.Native.Nat.{ℕ, zero, suc, _+_, _/_, _%_, _<_, _≤_}
+use Prim.Native.Nat.{ℕ, zero, suc, _/_, _<_, _≤_}
 use native.Mathlib.Omega.{arith}
 use lib.Dec.{eqb}
 use lib.ListN.{length, getD, take, replicate, length-replicate}
 use borrow.Author.Tests.{eq-eqb, eqb-true}
 use Rattle.pixels.specs.Framebuffer.{height}
 use Rattle.pixels.proofs.Tests.{by-test}
-use Rattle.bar_ledger.specs.Claim.{Agrees}
 use Rattle.directory.specs.Directory.{validOf}
 use Rattle.state.specs.declared.Phase.{Phase}
 use Rattle.state.specs.declared.Phase.the-variants.{Idle, Prefix, Gathering, Inline, Upload}
 use Rattle.state.specs.declared.Refusals.{Refusals}
 use Rattle.state.specs.declared.State.{State}
-use Rattle.state.specs.State.{startState}
 use Rattle.state.specs.Soundness.{soundState}
 use Rattle.queue.specs.Record as queue-record
 use Rattle.record.specs.Layout.{recordSize}
@@ -30,9 +28,7 @@ use Rattle.record.proofs.Round.{decode-encode, encode-decode, encoded-sound, pa
 use Rattle.rules.specs.World.{World, world, port}
 use Rattle.rules.specs.Files.{inUse, lacksSpace}
 use Rattle.rules.specs.Step.{step}
-use Rattle.rules.specs.Calls.{run, said, taken}
-use Rattle.rules.specs.Events.{view, event}
-use Rattle.rules.specs.History.{refusedOf, lastOf}
+use Rattle.rules.specs.Calls.{run, taken}
 use Rattle.rules.specs.Chunks.{joined, EnoughAll}
 use Rattle.rules.specs.Sound.{Bytes, Welcome, Good}
 use Rattle.rules.proofs.ByByte.{demand-3}
@@ -43,7 +39,7 @@ use Rattle.calls.specs.Memory.{framebufferRows, framebufferBytes, Memory
 use Rattle.calls.specs.Feed.{Fed, fed, fedBytes, feedOf}
 use Rattle.calls.specs.Line.{bothSound}
 use Rattle.calls.specs.Start.{emptied, startChecked, startOf, startWorld}
-use Rattle.calls.specs.List.{Board, board, Call, afterAll, consumedAll, sentAll, chunksIn}
+use Rattle.calls.specs.List.{Board, board, Call, consumedAll, chunksIn}
 use Rattle.calls.specs.Bytes.{AllBytes, BytesInAll, ByteMemory}
 use Rattle.calls.specs.Served.{Served}
 use Rattle.calls.proofs.Inside.{bars-inside, consumed-bytes}
@@ -80,9 +76,9 @@ both-false false b e f = f
 welcome-passes : (f : Phase) (s : List ℕ) → Welcome f s → uploadRefused s f ≡ false
 welcome-passes Idle s h = refl
 welcome-passes Prefix s h = refl
-welcome-passes (Gathering c g) s h = refl
-welcome-passes (Inline x1 y1 x2 y2 d) s h = refl
-welcome-passes (Upload k n z t v c) s h = both-false (inUse s k n) (lacksSpace s z) (h .0) (h .1)
+welcome-passes (Gathering code got) s h = refl
+welcome-passes (Inline x1 y1 x2 y2 came) s h = refl
+welcome-passes (Upload kind number size stored waiting byte) s h = both-false (inUse s kind number) (lacksSpace s size) (h .0) (h .1)
 
 pass : (w : World) → Kept w → checked (saved w) ≡ 0
 unfolding checked
@@ -146,9 +142,9 @@ neither-use false b e = (refl, e)
 passes-welcome : (f : Phase) (s : List ℕ) → uploadRefused s f ≡ false → Welcome f s
 passes-welcome Idle s h = tt
 passes-welcome Prefix s h = tt
-passes-welcome (Gathering c g) s h = tt
-passes-welcome (Inline x1 y1 x2 y2 d) s h = tt
-passes-welcome (Upload k n z t v c) s h = neither-use (inUse s k n) (lacksSpace s z) h
+passes-welcome (Gathering code got) s h = tt
+passes-welcome (Inline x1 y1 x2 y2 came) s h = tt
+passes-welcome (Upload kind number size stored waiting byte) s h = neither-use (inUse s kind number) (lacksSpace s size) h
 
 pub checked-kept : (m : Memory) → ByteMemory m → checked m ≡ 0 → Kept (loaded m)
 unfolding height

@@ -1,18 +1,18 @@
 -- Every bar's rectangle lies on the framebuffer, after every byte: one that is set up, since the state is sound; one that is not, since it is blank.
 -- Assumes nothing.
-use mathlib.Core.Path.{_≡_, refl, sym, subst}
-use mathlib.Core.Bool.{Bool, true, false, cond, _&&_}
+use mathlib.Core.Path.{_≡_, refl}
+use mathlib.Core.Bool.{Bool, true, false, _&&_}
 use mathlib.Core.List.{List, [], _∷_, _++_}
-use Prim.Native.Nat.{ℕ, zero, suc, _/_, _<_, _≤_}
+use Prim.Native.Nat.{ℕ, _/_, _<_}
 use native.Mathlib.Omega.{arith}
-use lib.Dec.{eqb, leb, ltb}
+use lib.Dec.{eqb, ltb}
 use lib.ListN.{length, take}
 use borrow.Author.Tests.{eqb-true, ltb-true}
-use Rattle.pixels.specs.Framebuffer.{width, On, height}
+use Rattle.pixels.specs.Framebuffer.{width, On}
 use Rattle.pixels.proofs.Tests.{and-one, and-two}
 use Rattle.pixels.proofs.Touch.{rectangle-true}
 use Rattle.bar_graph.specs.declared.Bar.{Bar}
-use Rattle.bar_graph.specs.Bars.{lengthOf, rectangleOf}
+use Rattle.bar_graph.specs.Bars.{rectangleOf}
 use Rattle.bar_ledger.specs.Ledger.{along}
 use Rattle.state.specs.declared.BarSlot.{BarSlot}
 use Rattle.state.specs.State.{noBar, barAt}
@@ -25,7 +25,7 @@ use Rattle.rules.specs.Calls.{run}
 use Rattle.rules.proofs.Good.{parts}
 use Rattle.calls.specs.Memory.{Kept}
 use Rattle.calls.specs.Feed.{feedOf}
-use Rattle.calls.specs.List.{Board, board, Call, feeds, arrives, takes, afterCall, consumedAll}
+use Rattle.calls.specs.List.{Board, Call, feeds, arrives, takes, consumedAll}
 use Rattle.calls.specs.Bytes.{AllBytes, BytesInAll}
 use Rattle.calls.proofs.Lists.{take-bytes}
 

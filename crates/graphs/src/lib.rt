@@ -18,7 +18,6 @@ use state::Strip;
 ghost use mathlib.Core.Path.{_≡_};
 ghost use mathlib.Core.Bool.{true};
 ghost use Prim.Native.Nat.{_<_};
-ghost use Rattle.state.specs.State.{barSlot};
 ghost use Rattle.rules.specs.Bars.{apart, setUpBar, writeBar, setUpStrip, shiftStrip};
 ghost use Rattle.outcome.specs.Contract.{SetsOn, Paints};
 ghost use Rattle.graphs.specs.Graphs.{inBoundsOf, withBarOf, withStripOf};

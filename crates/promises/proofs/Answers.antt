@@ -2,8 +2,8 @@
 -- Assumes nothing.
 use mathlib.Core.Path.{_≡_, _∙_, refl, sym, ap, subst}
 use mathlib.Core.List.{List, [], _∷_}
-use mathlib.Core.Bool.{Bool, true, false, cond, _&&_}
-use Prim.Native.Nat.{ℕ, _<_, _≤_}
+use mathlib.Core.Bool.{Bool, true, false, cond}
+use Prim.Native.Nat.{ℕ, _≤_}
 use native.Mathlib.Omega.{arith}
 use native.Mathlib.Decide.{decLt}
 use lib.Dec.{eqb, ltb}
@@ -12,28 +12,26 @@ use borrow.Author.Tests.{lt-ltb, le-ltb, eq-eqb, ne-eqb}
 use Rattle.queue.specs.declared.Arrival.{Arrival}
 use Rattle.queue.specs.declared.Taken.{Taken}
 use Rattle.queue.specs.Queue.{arriveOf, takeOf}
-use Rattle.queue.specs.Record.{soundRecord, decodeOf}
+use Rattle.queue.specs.Record.{decodeOf}
 use Rattle.queue.specs.Record as queue-record
-use Rattle.pixels.proofs.Tests.{by-test}
 use Rattle.record.specs.Writing.{encodeOf}
 use Rattle.rules.specs.World.{World}
 use Rattle.rules.specs.Calls.{run, taken}
-use Rattle.rules.specs.Chunks.{GoesTo}
 use Rattle.rules.proofs.Pieces.{taken-goes}
-use Rattle.calls.specs.Memory.{Memory, loaded, saved, Kept}
-use Rattle.calls.specs.Feed.{Fed, fedBytes, feedOf}
+use Rattle.calls.specs.Memory.{Memory, saved, Kept}
+use Rattle.calls.specs.Feed.{Fed}
 use Rattle.calls.specs.Start.{Started}
-use Rattle.calls.specs.Line.{Served, bothSound, flowIn, arriveCall, takeCall}
+use Rattle.calls.specs.Line.{Served, bothSound, arriveCall, takeCall}
 use Rattle.calls.specs.List.{Board, board}
 use Rattle.calls.specs.Bytes.{BytesInAll}
 use Rattle.calls.proofs.Lists.{take-bytes}
 use Rattle.calls.proofs.Demands.{kept-run, loaded-saved, fed-kept, line-kept}
 use Rattle.display.specs.Exports.{Called, feedCall}
-use Rattle.promises.specs.Made.{Made, fed, arrived, handed, refusedFeed, refusedArrive, refusedTake, refusedStart, lent, lentMemory, Meets, MeetsAll, left, callsOf}
+use Rattle.promises.specs.Made.{Made, fed, arrived, handed, refusedFeed, refusedArrive, refusedTake, refusedStart, lent, lentMemory, MeetsAll, left, callsOf}
 use Rattle.promises.specs.Answers.{Answers, AnswersAll}
 use Rattle.promises.proofs.Refusals.{refused-feed, refused-start, refused-arrive, refused-take}
 use Rattle.promises.proofs.Unmoved.{feed-unmoved, arrive-unmoved, take-unmoved, start-unmoved}
-use Rattle.promises.proofs.Lists.{Fits, fits}
+use Rattle.promises.proofs.Lists.{fits}
 
 -- 0 for a piece consumed whole, and 5 for one that is not
 whole-or-not : (n m : ℕ) → n ≤ m → cond {A = ℕ} (eqb n m) 0 5 ≡ cond (ltb n m) 5 0

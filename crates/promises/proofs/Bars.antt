@@ -19,7 +19,7 @@ use Rattle.rules.specs.Step.{step}
 use Rattle.rules.specs.Calls.{run}
 use Rattle.rules.specs.Events.{view, event}
 use Rattle.rules.specs.Sound.{Bytes}
-use Rattle.calls.specs.Memory.{Memory, checked, loaded, saved}
+use Rattle.calls.specs.Memory.{Memory, checked, loaded}
 use Rattle.calls.specs.Start.{Started, startChecked, startOf, startWorld, emptied}
 use Rattle.calls.specs.List.{Board, board}
 use Rattle.calls.specs.Bytes.{BytesInAll, ByteMemory}

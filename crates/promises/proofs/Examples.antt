@@ -25,7 +25,6 @@ use Rattle.state.specs.State.{barOf}
 use Rattle.state.specs.Commands.{commandOf}
 use Rattle.record.specs.Reading.{decodeOf, portOf, phaseOf}
 use Rattle.record.specs.Writing.{encodeOf, portBytes, phaseBytes, panelBytes, manyBytes}
-use Rattle.rules.specs.World.{World}
 use Rattle.rules.specs.Fonts.{openFont, openedAt}
 use Rattle.rules.specs.Text.{fontChosen, chooseFont, wrapped, fitted, glyphAt, glyphOn, characterIn, character}
 use Rattle.rules.specs.Drawing.{drawPixel, drawLine}
@@ -36,10 +35,10 @@ use Rattle.rules.specs.Settings.{flowOn}
 use Rattle.rules.specs.Step.{obey, code, argument, alone, byPhase, refuse, after, step, replies}
 use Rattle.rules.specs.Calls.{run, said, taken}
 use Rattle.rules.proofs.GoodLists.{bytes-zeros}
-use Rattle.calls.specs.Memory.{framebufferRows, framebufferBytes, Memory, saved, Kept}
-use Rattle.calls.specs.Start.{startChecked, startOf, startWorld, emptied}
+use Rattle.calls.specs.Memory.{framebufferRows, framebufferBytes, Kept}
+use Rattle.calls.specs.Start.{startChecked, startOf, startWorld}
 use Rattle.calls.specs.Feed.{Fed, fedBytes, feedOf}
-use Rattle.calls.specs.List.{Board, board}
+use Rattle.calls.specs.List.{Board}
 use Rattle.calls.proofs.Demands.{start-kept, start-left, fed-kept}
 use Rattle.promises.specs.Examples.{Row, given, begun, fedTo, Shows, Gives, Holds, AllHold, HasAll, byte, nothing, table, cornerPixels, pixelOutOfBounds, lineDown, lineBack, onePixel, barFromBottom, barFromLeft, barFromRight, letterT, savedPicture, pictureInLine, flowRefused, flowAccepted, uploadFits, uploadTooLarge}
 

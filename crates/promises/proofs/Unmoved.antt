@@ -2,14 +2,12 @@
 -- Assumes nothing.
 use mathlib.Core.Path.{_≡_, _∙_, refl, ap}
 use mathlib.Core.List.{List}
-use mathlib.Core.Bool.{false}
 use Prim.Native.Nat.{ℕ}
-use lib.Dec.{eqb}
-use Rattle.calls.specs.Memory.{Memory, checked}
-use Rattle.calls.specs.Start.{Started, startChecked, startOf}
-use Rattle.calls.specs.Line.{Served, bothSound, arriveCall, takeCall}
+use Rattle.calls.specs.Memory.{Memory}
+use Rattle.calls.specs.Start.{Started}
+use Rattle.calls.specs.Line.{Served}
 use Rattle.calls.specs.List.{Board, board}
-use Rattle.display.specs.Exports.{Called, feedCall}
+use Rattle.display.specs.Exports.{Called}
 use Rattle.promises.specs.Made.{Slice, own, other, lent, returned, Slices, lentMemory, returnedMemory, Meets, left, refusedFeed, refusedArrive, refusedTake, refusedStart}
 use Rattle.promises.proofs.Refusals.{refused-feed, refused-start, refused-arrive, refused-take}
 

@@ -33,9 +33,9 @@ phase-back : (p : Phase) (r a b c : List ℕ) → r ≡ gatheringBytes p ++ a �
 unfolding phaseOf
 phase-back Idle r a b c e f g = rw (f, g, e)
 phase-back Prefix r a b c e f g = rw (f, g, e)
-phase-back (Gathering k n) r a b c e f g = rw (f, g, e)
-phase-back (Inline x1 y1 x2 y2 d) r a b c e f g = rw (f, g, e, pair-back d)
-phase-back (Upload k n z s w x) r a b c e f g = rw (f, g, e, pair-back z, pair-back s, bit-back w)
+phase-back (Gathering code got) r a b c e f g = rw (f, g, e)
+phase-back (Inline x1 y1 x2 y2 came) r a b c e f g = rw (f, g, e, pair-back came)
+phase-back (Upload kind number size stored waiting byte) r a b c e f g = rw (f, g, e, pair-back size, pair-back stored, bit-back waiting)
 
 arguments-back : (l m : List ℕ) → length l ≡ 6 → argumentsIn (l ++ m) ≡ l
 arguments-back [] m e = absurd (omega arith)

@@ -113,9 +113,9 @@ high-fits n h = omega arith
 gathering-fits : (p : Phase) → FitsPhase p → All Byte (gatheringBytes p)
 gathering-fits Idle f = (zero-fits, (zero-fits, (zero-fits, tt)))
 gathering-fits Prefix f = (lit< tt, (zero-fits, (zero-fits, tt)))
-gathering-fits (Gathering c g) f = (lit< tt, (f .0, (f .1, tt)))
-gathering-fits (Inline x1 y1 x2 y2 d) f = (lit< tt, (zero-fits, (zero-fits, tt)))
-gathering-fits (Upload k n z s w b) f = (lit< tt, (zero-fits, (zero-fits, tt)))
+gathering-fits (Gathering code got) f = (lit< tt, (f .0, (f .1, tt)))
+gathering-fits (Inline x1 y1 x2 y2 came) f = (lit< tt, (zero-fits, (zero-fits, tt)))
+gathering-fits (Upload kind number size stored waiting byte) f = (lit< tt, (zero-fits, (zero-fits, tt)))
 
 six-zeros : All Byte (0 ∷ 0 ∷ 0 ∷ 0 ∷ 0 ∷ 0 ∷ [])
 six-zeros = (zero-fits, (zero-fits, (zero-fits, (zero-fits, (zero-fits, (zero-fits, tt))))))
@@ -123,16 +123,16 @@ six-zeros = (zero-fits, (zero-fits, (zero-fits, (zero-fits, (zero-fits, (zero-fi
 data-fits : (p : Phase) → FitsPhase p → All Byte (dataBytes p)
 data-fits Idle f = six-zeros
 data-fits Prefix f = six-zeros
-data-fits (Gathering c g) f = six-zeros
-data-fits (Inline x1 y1 x2 y2 d) f = (f .0, (f .1, (f .2, (f .3, (low-fits d, (high-fits d (f .4), tt))))))
-data-fits (Upload k n z s w b) f = six-zeros
+data-fits (Gathering code got) f = six-zeros
+data-fits (Inline x1 y1 x2 y2 came) f = (f .0, (f .1, (f .2, (f .3, (low-fits came, (high-fits came (f .4), tt))))))
+data-fits (Upload kind number size stored waiting byte) f = six-zeros
 
 upload-written : (p : Phase) → FitsPhase p → All Byte (uploadBytes p)
 upload-written Idle f = (zero-fits, (zero-fits, six-zeros))
 upload-written Prefix f = (zero-fits, (zero-fits, six-zeros))
-upload-written (Gathering c g) f = (zero-fits, (zero-fits, six-zeros))
-upload-written (Inline x1 y1 x2 y2 d) f = (zero-fits, (zero-fits, six-zeros))
-upload-written (Upload k n z s w b) f = (f .0, (f .1, (low-fits z, (high-fits z (f .2), (low-fits s, (high-fits s (f .3), (bit-fits w, (f .4, tt))))))))
+upload-written (Gathering code got) f = (zero-fits, (zero-fits, six-zeros))
+upload-written (Inline x1 y1 x2 y2 came) f = (zero-fits, (zero-fits, six-zeros))
+upload-written (Upload kind number size stored waiting byte) f = (f .0, (f .1, (low-fits size, (high-fits size (f .2), (low-fits stored, (high-fits stored (f .3), (bit-fits waiting, (f .4, tt))))))))
 
 many-written : {A : Type 0} (P : A → Type 0) (bytes : A → List ℕ) → ((a : A) → P a → All Byte (bytes a)) → (l : List A) → All P l → All Byte (manyBytes bytes l)
 unfolding manyBytes

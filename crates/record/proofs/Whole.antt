@@ -21,23 +21,23 @@ use Rattle.record.proofs.Overwriting.{over-next, over-front, length-man
 pub length-gathering : (p : Phase) → length (gatheringBytes p) ≡ 3
 length-gathering Idle = refl
 length-gathering Prefix = refl
-length-gathering (Gathering c g) = refl
-length-gathering (Inline x1 y1 x2 y2 d) = refl
-length-gathering (Upload k n z s w b) = refl
+length-gathering (Gathering code got) = refl
+length-gathering (Inline x1 y1 x2 y2 came) = refl
+length-gathering (Upload kind number size stored waiting byte) = refl
 
 pub length-data : (p : Phase) → length (dataBytes p) ≡ 6
 length-data Idle = refl
 length-data Prefix = refl
-length-data (Gathering c g) = refl
-length-data (Inline x1 y1 x2 y2 d) = refl
-length-data (Upload k n z s w b) = refl
+length-data (Gathering code got) = refl
+length-data (Inline x1 y1 x2 y2 came) = refl
+length-data (Upload kind number size stored waiting byte) = refl
 
 pub length-upload : (p : Phase) → length (uploadBytes p) ≡ 8
 length-upload Idle = refl
 length-upload Prefix = refl
-length-upload (Gathering c g) = refl
-length-upload (Inline x1 y1 x2 y2 d) = refl
-length-upload (Upload k n z s w b) = refl
+length-upload (Gathering code got) = refl
+length-upload (Inline x1 y1 x2 y2 came) = refl
+length-upload (Upload kind number size stored waiting byte) = refl
 
 -- a part, and what follows it
 part : (l m : List ℕ) (a b : ℕ) → length l ≡ a → length m ≡ b → length (l ++ m) ≡ a + b

@@ -92,9 +92,9 @@ pub phase-obeys : (p : Phase) (w : World) (b : ℕ) → Shaped w → Obeying w (
 unfolding byPhase meant
 phase-obeys Idle w b s = alone-obeys w b
 phase-obeys Prefix w b s = code-obeys w b s
-phase-obeys (Gathering c g) w b s = argument-obeys w c g b s
-phase-obeys (Inline x1 y1 x2 y2 d) w b s = inline-obeys w x1 y1 x2 y2 d b
-phase-obeys (Upload k n z t v c) w b s = data-obeys w k n z t v c b
+phase-obeys (Gathering code got) w b s = argument-obeys w code got b s
+phase-obeys (Inline x1 y1 x2 y2 came) w b s = inline-obeys w x1 y1 x2 y2 came b
+phase-obeys (Upload kind number size stored waiting byte) w b s = data-obeys w kind number size stored waiting byte b
 
 -- ---- a step
 

@@ -143,9 +143,9 @@ module _ {n m : ℕ} {w : World} (p : Parts n m w) where
   unfolding byPhase
   phase-good Idle b q h = alone-good b
   phase-good Prefix b q h = code-good b h
-  phase-good (Gathering c g) b q h = argument-good c g b q h
-  phase-good (Inline x1 y1 x2 y2 d) b q h = inline-good p x1 y1 x2 y2 d b q
-  phase-good (Upload k i z s v c) b q h = data-good p k i z s v c b q h
+  phase-good (Gathering code got) b q h = argument-good code got b q h
+  phase-good (Inline x1 y1 x2 y2 came) b q h = inline-good p x1 y1 x2 y2 came b q
+  phase-good (Upload kind number size stored waiting byte) b q h = data-good p kind number size stored waiting byte b q h
 
   -- a refusal ends what was under way and is counted
   after-good : (o : Outcome) → Leaves n m o → Parts n m (after w o)

@@ -215,8 +215,8 @@ module _ {n m : ℕ} {w : World} (p : Parts n m w) (k i b : ℕ) (has : hasFile 
       unless w (p .store) k i has (noBitmap w c g b) 22 _ (λ _.
       by-test (Staying (w .store) k i) (ltb (g + 1) l) _ _ (λ _. same w (p .store) k i has)
       (λ h. obeyed (commandOf c) (set (port w .args) g b) (spares c g e (omega (arith, ltb-false (g + 1) l h, ltb-true g l (q .sound))))))
-  by-phase (Inline x1 y1 x2 y2 d) e q = same w (p .store) k i has
-  by-phase (Upload j u z s v c) e q = data-stays w (p .store) k i has j u z s v c b q
+  by-phase (Inline x1 y1 x2 y2 came) e q = same w (p .store) k i has
+  by-phase (Upload kind number size stored waiting byte) e q = data-stays w (p .store) k i has kind number size stored waiting byte b q
 
   after-stays : (o : Outcome) → Staying (w .store) k i o → Stays (w .store) (after w o .store) k i
   unfolding after refuse
