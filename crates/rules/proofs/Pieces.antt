@@ -12,9 +12,7 @@ use Rattle.rules.specs.World.{World}
 use Rattle.rules.specs.Step.{step, replies}
 use Rattle.rules.specs.Calls.{said, taken}
 use Rattle.rules.specs.Chunks.{Enough, GoesTo}
-
-succ : (n : ℕ) → suc n ≡ 1 + n
-succ n = omega arith
+use Rattle.rules.proofs.Replies.{succ}
 
 one-more : (w : World) (room b : ℕ) (l : List ℕ) (n : ℕ) → 2 ≤ room → GoesTo (step w b) (room - length (replies w b)) l n → GoesTo w room (b ∷ l) (suc n)
 unfolding Enough said

@@ -170,7 +170,7 @@ pub replies-most : (w : World) (b : ℕ) → length (replies w b) ≤ 2
 unfolding replies
 replies-most w b = phase-brief (port w .phase) w b .most
 
-succ : (n : ℕ) → suc n ≡ 1 + n
+pub succ : (n : ℕ) → suc n ≡ 1 + n
 succ n = omega arith
 
 pub said-fits : (w : World) (room : ℕ) (l : List ℕ) → length (said w (take (taken w room l) l)) ≤ room
