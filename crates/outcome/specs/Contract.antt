@@ -1,52 +1,70 @@
--- What a command function promises: whatever stands in the memory that it is not lent, the next world and the bytes sent are those of its rule.
+-- What a command function promises: whatever stands in the memory that it is not lent, that memory stays, and the port, the bytes sent and the memory that it
+-- is lent become what its rule says.
 -- Assumes nothing.
 use mathlib.Core.Path.{_≡_}
 use mathlib.Core.List.{List}
 use Prim.Native.Nat.{ℕ}
 use Rattle.pixels.specs.Framebuffer.{height}
-use Rattle.state.specs.declared.State.{State}
-use Rattle.rules.specs.World.{World, world, Outcome as Ruled}
+use Rattle.state.specs.declared.Port.{Port}
+use Rattle.state.specs.State.{state}
+use Rattle.record.specs.Reading.{panelOf}
+use Rattle.panel.specs.Revised.{revised}
+use Rattle.rules.specs.World.{World, world, port, panel, Outcome as Ruled}
 use Rattle.rules.specs.Step.{after, sent}
 use Rattle.outcome.specs.declared.Outcome.{Outcome}
 use Rattle.outcome.specs.Outcome.{sentBy}
 
--- from world w by a rule's outcome to world v, sending l
-pub record Came (w : World) (o : Ruled) (v : World) (l : List ℕ) : Type 0 where
-  pub next : v ≡ after w o
+-- ---- what is lent
+
+-- a function is not lent a memory, or it is lent one as it stands and leaves it as it stands then
+pub data Loan : Type 0 where
+  unlent : Loan
+  lent : List ℕ → List ℕ → Loan
+
+-- with x in a memory that is not lent
+abbrev pub found : Loan → List ℕ → List ℕ
+found unlent x = x
+found (lent a b) x = a
+
+abbrev pub left : Loan → List ℕ → List ℕ
+left unlent x = x
+left (lent a b) x = b
+
+-- the framebuffer's height, where a function is told it
+pub data Told : Type 0 where
+  untold : Told
+  told : ℕ → Told
+
+abbrev pub True : Told → List ℕ → Type 0
+True untold g = Unit
+True (told h) g = height g ≡ h
+
+-- ---- what comes of it
+
+-- framebuffer, store, the panel's bytes, and the port
+pub record Held : Type 0 where
+  pub framebuffer : List ℕ
+  pub store : List ℕ
+  pub panel-bytes : List ℕ
+  pub port : Port
+
+abbrev pub held : List ℕ → List ℕ → List ℕ → Port → Held
+held g s p t = record { framebuffer = g; store = s; panel-bytes = p; port = t }
+
+abbrev pub worldOf : Held → World
+worldOf m = world (m .framebuffer) (m .store) (state (m .port) (panelOf (m .panel-bytes)))
+
+-- a world written over the panel's bytes
+abbrev pub heldBy : List ℕ → World → Held
+heldBy p w = held (w .framebuffer) (w .store) (revised p (panel w)) (port w)
+
+-- by a rule's outcome from m to n, sending l
+pub record Came (m : Held) (o : Ruled) (n : Held) (l : List ℕ) : Type 0 where
+  pub next : n ≡ heldBy (m .panel-bytes) (after (worldOf m) o)
   pub sends : l ≡ sent o
 
--- lent no memory
-pub record Sets (rule : World → Ruled) (st : State) (r : Outcome) : Type 0 where
-  pub came : (g s : List ℕ) → Came (world g s st) (rule (world g s st)) (world g s (r .state)) (sentBy (r .reply))
-
--- lent no memory, and told the framebuffer's height
-pub record SetsOn (h : ℕ) (rule : World → Ruled) (st : State) (r : Outcome) : Type 0 where
-  pub came : (g s : List ℕ) → height g ≡ h → Came (world g s st) (rule (world g s st)) (world g s (r .state)) (sentBy (r .reply))
-
--- lent the framebuffer g, and leaving it as g'
-pub record Paints (rule : World → Ruled) (st : State) (g g' : List ℕ) (r : Outcome) : Type 0 where
-  pub came : (s : List ℕ) → Came (world g s st) (rule (world g s st)) (world g' s (r .state)) (sentBy (r .reply))
-
--- the same, and told its height
-pub record PaintsOn (h : ℕ) (rule : World → Ruled) (st : State) (g g' : List ℕ) (r : Outcome) : Type 0 where
-  pub came : (s : List ℕ) → height g ≡ h → Came (world g s st) (rule (world g s st)) (world g' s (r .state)) (sentBy (r .reply))
-
--- lent the store s, and leaving it as s'
-pub record Stores (rule : World → Ruled) (st : State) (s s' : List ℕ) (r : Outcome) : Type 0 where
-  pub came : (g : List ℕ) → Came (world g s st) (rule (world g s st)) (world g s' (r .state)) (sentBy (r .reply))
-
--- the same, and told the framebuffer's height
-pub record StoresOn (h : ℕ) (rule : World → Ruled) (st : State) (s s' : List ℕ) (r : Outcome) : Type 0 where
-  pub came : (g : List ℕ) → height g ≡ h → Came (world g s st) (rule (world g s st)) (world g s' (r .state)) (sentBy (r .reply))
-
--- lent both, and told the framebuffer's height
-pub record AltersOn (h : ℕ) (rule : World → Ruled) (st : State) (g g' s s' : List ℕ) (r : Outcome) : Type 0 where
-  pub came : height g ≡ h → Came (world g s st) (rule (world g s st)) (world g' s' (r .state)) (sentBy (r .reply))
-
--- lent the framebuffer, and the store to read
-pub record Shows (rule : World → Ruled) (st : State) (g g' s : List ℕ) (r : Outcome) : Type 0 where
-  pub came : Came (world g s st) (rule (world g s st)) (world g' s (r .state)) (sentBy (r .reply))
-
--- the same, and told the framebuffer's height
-pub record ShowsOn (h : ℕ) (rule : World → Ruled) (st : State) (g g' s : List ℕ) (r : Outcome) : Type 0 where
-  pub came : height g ≡ h → Came (world g s st) (rule (world g s st)) (world g' s (r .state)) (sentBy (r .reply))
+-- THE PROMISE of a function that is told t, is handed a port and is lent the framebuffer by G, the store by S and the panel's bytes by P
+pub record Obeys (t : Told) (rule : World → Ruled) (pt : Port) (G S P : Loan) (r : Outcome) : Type 0 where
+  pub came : (g s p : List ℕ) → True t (found G g)
+      → Came (held (found G g) (found S s) (found P p) pt) (rule (worldOf (held (found G g) (found S s) (found P p) pt)))
+      (held (left G g) (left S s) (left P p) (r .port)) (sentBy (r .reply))

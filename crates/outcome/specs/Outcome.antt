@@ -1,16 +1,12 @@
--- The code's outcome: a state and a reply. `sentBy` has the reply as a list of bytes, as the rules say it.
+-- The code's outcome: a port and a reply. `sentBy` has the reply as a list of bytes, as the rules say it.
 -- Assumes nothing.
 use mathlib.Core.List.{List, [], _∷_}
 use mathlib.Core.Bool.{cond}
 use Prim.Native.Nat.{ℕ, _+_, _%_}
 use lib.Dec.{eqb}
 use Rattle.state.specs.declared.Phase.{Phase}
-use Rattle.state.specs.declared.Phase.the-variants.{Idle}
-use Rattle.state.specs.declared.Text.{Text}
 use Rattle.state.specs.declared.Port.{Port}
-use Rattle.state.specs.declared.Panel.{Panel}
-use Rattle.state.specs.declared.State.{State}
-use Rattle.state.specs.State.{state, withPhase, withText, withRefusals, idle, noArgs}
+use Rattle.state.specs.State.{withPhase, withRefusals, idle, noArgs}
 use Rattle.rules.specs.Step.{refusals}
 use Rattle.outcome.specs.declared.Reply.{Reply}
 use Rattle.outcome.specs.declared.Outcome.{Outcome}
@@ -30,26 +26,17 @@ twoBytes a b = reply 2 a b
 unfoldable pub sentBy : Reply → List ℕ
 sentBy r = cond (eqb (r .count) 0) [] (cond (eqb (r .count) 1) (r .first ∷ []) (r .first ∷ r .second ∷ []))
 
-abbrev pub inPhaseOf : State → Phase → State
-inPhaseOf s f = state (withPhase (s .port) f noArgs) (s .panel)
+abbrev pub inPhaseOf : Port → Phase → Port
+inPhaseOf p f = withPhase p f noArgs
 
-abbrev pub withPortOf : State → Port → State
-withPortOf s p = state p (s .panel)
+unfoldable pub refusedPort : Port → ℕ → Port
+refusedPort p n = withRefusals (idle p) (refusals ((p .refusals .count + 1) % 65536) n)
 
-abbrev pub withPanelOf : State → Panel → State
-withPanelOf s q = state (s .port) q
+abbrev pub sendingOf : Port → Reply → Outcome
+sendingOf p r = record { port = p; reply = r }
 
-abbrev pub putTextOf : State → Text → State
-putTextOf s t = state (withText (s .port) t) (s .panel)
+abbrev pub doneOf : Port → Outcome
+doneOf p = sendingOf p noReply
 
-unfoldable pub refusedState : State → ℕ → State
-refusedState s n = state (withRefusals (idle (s .port)) (refusals ((s .port .refusals .count + 1) % 65536) n)) (s .panel)
-
-abbrev pub sendingOf : State → Reply → Outcome
-sendingOf s r = record { state = s; reply = r }
-
-abbrev pub doneOf : State → Outcome
-doneOf s = sendingOf s noReply
-
-abbrev pub refusedOf : State → ℕ → Outcome
-refusedOf s n = sendingOf (refusedState s n) noReply
+abbrev pub refusedOf : Port → ℕ → Outcome
+refusedOf p n = sendingOf (refusedPort p n) noReply

@@ -1,13 +1,12 @@
-// What comes of a byte: the next state, and the bytes to send. A refusal alters nothing of the state but what it names.
+// What comes of a byte: the next port, and the bytes to send. A refusal alters nothing of the port but what it names.
 use state::ARGUMENTS;
-use state::Panel;
 use state::Phase;
 use state::Port;
 use state::Refusals;
-use state::State;
 use state::Text;
 ghost use mathlib.Core.Path.{_≡_};
-ghost use Rattle.outcome.specs.Outcome.{oneByte, twoBytes, inPhaseOf, withPortOf, withPanelOf, putTextOf, refusedState, doneOf, refusedOf, sendingOf};
+ghost use Rattle.state.specs.State.{withText};
+ghost use Rattle.outcome.specs.Outcome.{oneByte, twoBytes, inPhaseOf, refusedPort, doneOf, refusedOf, sendingOf};
 
 // At most two bytes; `count` of them are sent, the first one first.
 pub struct Reply {
@@ -17,7 +16,7 @@ pub struct Reply {
 }
 
 pub struct Outcome {
-    pub state: State,
+    pub port: Port,
     pub reply: Reply,
 }
 
@@ -42,74 +41,49 @@ pub fn two_bytes(first: u8, second: u8) -> Reply
 }
 
 // The line in another phase, with no arguments gathered.
-pub fn in_phase(state: State, phase: Phase) -> State
-    ensures { λ r. ⌜ r ≡ inPhaseOf state phase ⌝ }
+pub fn in_phase(port: Port, phase: Phase) -> Port
+    ensures { λ r. ⌜ r ≡ inPhaseOf port phase ⌝ }
 {
-    let text = state.port.text;
-    let drawing = state.port.drawing;
-    let flow = state.port.flow;
-    let refusals = state.port.refusals;
-    let panel = state.panel;
-    State {
-        port: Port {
-            phase: phase,
-            args: [0; ARGUMENTS],
-            text: text,
-            drawing: drawing,
-            flow: flow,
-            refusals: refusals,
-        },
-        panel: panel,
+    let text = port.text;
+    let drawing = port.drawing;
+    let flow = port.flow;
+    let refusals = port.refusals;
+    Port {
+        phase: phase,
+        args: [0; ARGUMENTS],
+        text: text,
+        drawing: drawing,
+        flow: flow,
+        refusals: refusals,
     }
 }
 
-pub fn with_port(state: State, port: Port) -> State
-    ensures { λ r. ⌜ r ≡ withPortOf state port ⌝ }
+pub fn put_text(port: Port, text: Text) -> Port
+    ensures { λ r. ⌜ r ≡ withText port text ⌝ }
 {
-    let panel = state.panel;
-    State {
-        port: port,
-        panel: panel,
-    }
-}
-
-pub fn with_panel(state: State, panel: Panel) -> State
-    ensures { λ r. ⌜ r ≡ withPanelOf state panel ⌝ }
-{
-    let port = state.port;
-    State {
-        port: port,
-        panel: panel,
-    }
-}
-
-pub fn put_text(state: State, text: Text) -> State
-    ensures { λ r. ⌜ r ≡ putTextOf state text ⌝ }
-{
-    let mut port = state.port;
-    port.text = text;
-    with_port(state, port)
+    let mut next = port;
+    next.text = text;
+    next
 }
 
 // What was under way ends, the refusal is counted, from 65535 on to 0, and is the last one.
-pub fn refuse(state: State, number: u8) -> State
-    ensures { λ r. ⌜ r ≡ refusedState state number ⌝ }
+pub fn refuse(port: Port, number: u8) -> Port
+    ensures { λ r. ⌜ r ≡ refusedPort port number ⌝ }
 {
-    let ended = in_phase(state, Phase::Idle);
     let refusals = Refusals {
-        count: std::num::wrapping_add_u16(state.port.refusals.count, 1),
+        count: std::num::wrapping_add_u16(port.refusals.count, 1),
         last: number,
     };
-    let mut port = ended.port;
-    port.refusals = refusals;
-    with_port(state, port)
+    let mut ended = in_phase(port, Phase::Idle);
+    ended.refusals = refusals;
+    ended
 }
 
-pub fn done(state: State) -> Outcome
-    ensures { λ r. ⌜ r ≡ doneOf state ⌝ }
+pub fn done(port: Port) -> Outcome
+    ensures { λ r. ⌜ r ≡ doneOf port ⌝ }
 {
     Outcome {
-        state: state,
+        port: port,
         reply: Reply {
             count: 0,
             first: 0,
@@ -118,17 +92,17 @@ pub fn done(state: State) -> Outcome
     }
 }
 
-pub fn refused(state: State, number: u8) -> Outcome
-    ensures { λ r. ⌜ r ≡ refusedOf state number ⌝ }
+pub fn refused(port: Port, number: u8) -> Outcome
+    ensures { λ r. ⌜ r ≡ refusedOf port number ⌝ }
 {
-    done(refuse(state, number))
+    done(refuse(port, number))
 }
 
-pub fn sending(state: State, reply: Reply) -> Outcome
-    ensures { λ r. ⌜ r ≡ sendingOf state reply ⌝ }
+pub fn sending(port: Port, reply: Reply) -> Outcome
+    ensures { λ r. ⌜ r ≡ sendingOf port reply ⌝ }
 {
     Outcome {
-        state: state,
+        port: port,
         reply: reply,
     }
 }
