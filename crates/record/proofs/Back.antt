@@ -14,8 +14,9 @@ use Rattle.state.specs.declared.Phase.the-variants.{Idle, Prefix, Gathering, In
 use Rattle.state.specs.declared.Text.{Text}
 use Rattle.state.specs.declared.BarSlot.{BarSlot}
 use Rattle.state.specs.declared.Strip.{Strip}
+use Rattle.state.specs.declared.Panel.{Panel}
 use Rattle.state.specs.declared.State.{State}
-use Rattle.record.specs.Reading.{manyOf, phaseOf, argumentsIn, textOf, drawingOf, flowOf, refusalsOf, slotOf, stripOf, serialOf, backlightOf}
+use Rattle.record.specs.Reading.{manyOf, phaseOf, argumentsIn, textOf, drawingOf, flowOf, refusalsOf, slotOf, stripOf, serialOf, backlightOf, panelOf}
 use Rattle.record.specs.Writing.{low, high, manyBytes, gatheringBytes, dataBytes, uploadBytes, textBytes, otherBytes, phaseBytes, portBytes}
 use Rattle.record.specs.Writing.{slotBytes, stripBytes, lastBytes, panelBytes, encodeOf}
 use Rattle.record.proofs.Whole.{Sized, length-gathering, length-data, length-upload, length-bars, length-strips}
@@ -71,6 +72,36 @@ module _ {A : Type 0} (one : List ℕ → A) (bytes : A → List ℕ) (size : �
 next : (r l m : List ℕ) (k n : ℕ) → drop k r ≡ l ++ m → length l ≡ n → drop (k + n) r ≡ m
 next r l m k n e f = sym (drop-drop n k r) ∙ ap (drop n) e ∙ drop-at l m n f
 
+module _ (q : Panel) (b : length (q .bars) ≡ 16) (t : length (q .strips) ≡ 8) where
+  bars-written : panelBytes q ≡ manyBytes slotBytes (q .bars) ++ (manyBytes stripBytes (q .strips) ++ lastBytes q)
+  unfolding panelBytes
+  bars-written = refl
+
+  strips-written : drop 112 (panelBytes q) ≡ manyBytes stripBytes (q .strips) ++ lastBytes q
+  strips-written = next (panelBytes q) (manyBytes slotBytes (q .bars)) _ 0 112 bars-written (length-bars q b)
+
+  last-written : drop 152 (panelBytes q) ≡ lastBytes q
+  last-written = next (panelBytes q) (manyBytes stripBytes (q .strips)) _ 112 40 strips-written (length-strips q t)
+
+  bars-back : manyOf slotOf 7 (panelBytes q) 16 ≡ q .bars
+  bars-back = rw (← b, bars-written) (many-back slotOf slotBytes 7 slot-back (λ a m. refl) (q .bars) _)
+
+  strips-back : manyOf stripOf 5 (drop 112 (panelBytes q)) 8 ≡ q .strips
+  strips-back = rw (← t, strips-written) (many-back stripOf stripBytes 5 strip-back (λ a m. refl) (q .strips) _)
+
+  serial-back : serialOf (drop 152 (panelBytes q)) ≡ q .serial
+  serial-back = ap serialOf last-written ∙ rw (bit-back (q .serial .on))
+
+  contrast-back : at (panelBytes q) 155 ≡ q .contrast
+  contrast-back = sym (getD-drop 152 (panelBytes q) 3 0) ∙ ap (λ (l : List ℕ). at l 3) last-written
+
+  backlight-back : backlightOf (drop 156 (panelBytes q)) ≡ q .backlight
+  backlight-back = ap backlightOf (sym (drop-drop 4 152 (panelBytes q)) ∙ ap (drop 4) last-written) ∙ rw (bit-back (q .backlight .on))
+
+  pub panel-back : panelOf (panelBytes q) ≡ q
+  unfolding panelOf
+  panel-back = rw (bars-back, strips-back, serial-back, contrast-back, backlight-back)
+
 module _ (s : State) (z : Sized s) where
   flat : encodeOf s ≡ gatheringBytes (s .port .phase)
       ++ (s .port .args ++ (dataBytes (s .port .phase) ++ (uploadBytes (s .port .phase) ++ (textBytes (s .port .text) ++ (otherBytes (s .port) ++ panelBytes (s .panel))))))
@@ -98,18 +129,8 @@ module _ (s : State) (z : Sized s) where
   at-refusals : drop 40 (encodeOf s) ≡ drop 6 (otherBytes (s .port)) ++ panelBytes (s .panel)
   at-refusals = sym (drop-drop 6 34 (encodeOf s)) ∙ ap (drop 6) at-drawing
 
-  at-bars : drop 43 (encodeOf s) ≡ manyBytes slotBytes (s .panel .bars) ++ (manyBytes stripBytes (s .panel .strips) ++ lastBytes (s .panel))
-  unfolding panelBytes
-  at-bars = next (encodeOf s) (otherBytes (s .port)) _ 34 9 at-drawing refl
-
-  at-strips : drop 155 (encodeOf s) ≡ manyBytes stripBytes (s .panel .strips) ++ lastBytes (s .panel)
-  at-strips = next (encodeOf s) (manyBytes slotBytes (s .panel .bars)) _ 43 112 at-bars (length-bars (s .panel) (z .bars))
-
-  at-serial : drop 195 (encodeOf s) ≡ lastBytes (s .panel)
-  at-serial = next (encodeOf s) (manyBytes stripBytes (s .panel .strips)) _ 155 40 at-strips (length-strips (s .panel) (z .strips))
-
-  at-backlight : drop 199 (encodeOf s) ≡ drop 4 (lastBytes (s .panel))
-  at-backlight = sym (drop-drop 4 195 (encodeOf s)) ∙ ap (drop 4) at-serial
+  at-panel : drop 43 (encodeOf s) ≡ panelBytes (s .panel)
+  at-panel = next (encodeOf s) (otherBytes (s .port)) _ 34 9 at-drawing refl
 
   -- ---- and is read there
 
@@ -131,17 +152,5 @@ module _ (s : State) (z : Sized s) where
   pub refusals-read : refusalsOf (drop 40 (encodeOf s)) ≡ s .port .refusals
   refusals-read = ap refusalsOf at-refusals ∙ rw (pair-back (s .port .refusals .count))
 
-  pub bars-read : manyOf slotOf 7 (drop 43 (encodeOf s)) 16 ≡ s .panel .bars
-  bars-read = rw (← z .bars, at-bars) (many-back slotOf slotBytes 7 slot-back (λ a m. refl) (s .panel .bars) _)
-
-  pub strips-read : manyOf stripOf 5 (drop 155 (encodeOf s)) 8 ≡ s .panel .strips
-  strips-read = rw (← z .strips, at-strips) (many-back stripOf stripBytes 5 strip-back (λ a m. refl) (s .panel .strips) _)
-
-  pub serial-read : serialOf (drop 195 (encodeOf s)) ≡ s .panel .serial
-  serial-read = ap serialOf at-serial ∙ rw (bit-back (s .panel .serial .on))
-
-  pub contrast-read : at (encodeOf s) 198 ≡ s .panel .contrast
-  contrast-read = sym (getD-drop 195 (encodeOf s) 3 0) ∙ ap (λ (l : List ℕ). at l 3) at-serial
-
-  pub backlight-read : backlightOf (drop 199 (encodeOf s)) ≡ s .panel .backlight
-  backlight-read = ap backlightOf at-backlight ∙ rw (bit-back (s .panel .backlight .on))
+  pub panel-read : panelOf (drop 43 (encodeOf s)) ≡ s .panel
+  panel-read = ap panelOf at-panel ∙ panel-back (s .panel) (z .bars) (z .strips)

@@ -70,21 +70,21 @@ port-fits r b =
       others = (d 1, (d 2, (f 1, (f 2, (n 2, tt)))));
     }
 
-panel-fits : (r : List ℕ) → Bytes r → FitsPanel (panelOf r)
+panel-fits : (l : List ℕ) → Bytes l → FitsPanel (panelOf l)
 unfolding panelOf
-panel-fits r b =
-    let s = bytes-drop 195 r b in
+panel-fits l b =
+    let s = bytes-drop 152 l b in
     record {
-      bars-size = length-many slotOf 7 (drop 43 r) 16;
-      bars-fit = many-fit FitsSlot slotOf 7 (λ l c. (c 1, (c 2, (c 3, (c 4, (c 5, (c 6, tt))))))) 16 (drop 43 r) (bytes-drop 43 r b);
-      strips-size = length-many stripOf 5 (drop 155 r) 8;
-      strips-fit = many-fit FitsStrip stripOf 5 (λ l c. (c 1, (c 2, (c 3, (c 4, tt))))) 8 (drop 155 r) (bytes-drop 155 r b);
-      others = (s 1, (s 2, (b 198, (bytes-drop 199 r b 1, tt))));
+      bars-size = length-many slotOf 7 l 16;
+      bars-fit = many-fit FitsSlot slotOf 7 (λ l c. (c 1, (c 2, (c 3, (c 4, (c 5, (c 6, tt))))))) 16 l b;
+      strips-size = length-many stripOf 5 (drop 112 l) 8;
+      strips-fit = many-fit FitsStrip stripOf 5 (λ l c. (c 1, (c 2, (c 3, (c 4, tt))))) 8 (drop 112 l) (bytes-drop 112 l b);
+      others = (s 1, (s 2, (b 155, (bytes-drop 156 l b 1, tt))));
     }
 
 pub decoded-fits : (r : List ℕ) → Bytes r → Fits (decodeOf r)
 unfolding decodeOf
-decoded-fits r b = record { port-fits = port-fits r b; panel-fits = panel-fits r b }
+decoded-fits r b = record { port-fits = port-fits r b; panel-fits = panel-fits (drop 43 r) (bytes-drop 43 r b) }
 
 -- ---- writing
 

@@ -18,7 +18,7 @@ use Rattle.record.proofs.Whole.{Sized, written-whole}
 
 pub decoded-sized : (r : List ℕ) → Sized (decodeOf r)
 unfolding decodeOf portOf panelOf
-decoded-sized r = record { args = refl; bars = length-many slotOf 7 (drop 43 r) 16; strips = length-many stripOf 5 (drop 155 r) 8 }
+decoded-sized r = record { args = refl; bars = length-many slotOf 7 (drop 43 r) 16; strips = length-many stripOf 5 (drop 112 (drop 43 r)) 8 }
 
 module _ (h : ℕ) (r : List ℕ) where
   -- what is asked of its state, at once

@@ -6,27 +6,26 @@ use mathlib.Core.Bool.{true, _&&_}
 use mathlib.Core.List.{List}
 use Prim.Native.Nat.{ℕ, zero, suc, _+_, _*_, _<_}
 use lib.Dec.{eqb, lit<}
-use lib.ListN.{length, replicate}
+use lib.ListN.{length, drop, replicate}
 use lib.Seq.{getD-drop}
 use borrow.Author.Tests.{eq-eqb, eqb-true}
 use Rattle.queue.specs.Record.{at, Bytes}
 use Rattle.queue.specs.declared.Flow.{Flow}
 use Rattle.state.specs.declared.Refusals.{Refusals}
-use Rattle.state.specs.declared.Backlight.{Backlight}
+use Rattle.state.specs.declared.Panel.{Panel}
 use Rattle.state.specs.declared.State.{State}
 use Rattle.state.specs.State.{noBar, noStrip, startState}
 use Rattle.state.specs.Soundness.{soundState, thresholdsFit}
 use Rattle.state.specs.Canonical.{canonicalState}
 use Rattle.state.proofs.Start.{start-sound, start-thresholds, start-canonical}
-use Rattle.record.specs.Layout.{flowAt, flowFullAt, flowEmptyAt, refusalsAt, lastRefusalAt, contrastAt, backlightAt, minutesAt}
+use Rattle.record.specs.Layout.{flowAt, flowFullAt, flowEmptyAt, refusalsAt, lastRefusalAt, panelAt, contrastAt, backlightAt, minutesAt}
 use Rattle.record.specs.Reading.{pairAt, flagAt, portOf, panelOf, decodeOf}
 use Rattle.record.specs.Writing.{encodeOf}
 use Rattle.record.specs.Record.{encodedIn, sameBytes, soundRecord}
 use Rattle.record.specs.Fits.{All, FitsSlot, FitsStrip, Fits}
 use Rattle.record.proofs.Same.{both, same-refl, same-equal}
 use Rattle.record.proofs.Whole.{Sized, length-sized, written-whole}
-use Rattle.record.proofs.Back.{phase-read, arguments-read, text-read, drawing-read, flow-read, refusals-read}
-use Rattle.record.proofs.Back.{bars-read, strips-read, serial-read, contrast-read, backlight-read}
+use Rattle.record.proofs.Back.{phase-read, arguments-read, text-read, drawing-read, flow-read, refusals-read, panel-read}
 use Rattle.record.proofs.Bytes.{decoded-fits, encoded-bytes}
 
 pub sized : (s : State) → Fits s → Sized s
@@ -48,7 +47,7 @@ encoded-whole s g f e = written-whole s g (sized s f) e
 
 -- READING WHAT WAS WRITTEN
 pub decode-encode : (s : State) → Fits s → decodeOf (encodeOf s) ≡ s
-unfolding decodeOf portOf panelOf
+unfolding decodeOf portOf
 decode-encode s f =
     let z = sized s f in
     rw (
@@ -58,11 +57,7 @@ decode-encode s f =
       drawing-read s z,
       flow-read s z,
       refusals-read s z,
-      bars-read s z,
-      strips-read s z,
-      serial-read s z,
-      contrast-read s z,
-      backlight-read s z,
+      panel-read s z,
     )
 
 pub record Passed (h : ℕ) (r : List ℕ) : Type 0 where
@@ -165,14 +160,26 @@ pub record Shown (s : State) (r : List ℕ) : Type 0 where
 cong-pair : {a b c d : ℕ} → a ≡ b → c ≡ d → a + 256 * c ≡ b + 256 * d
 cong-pair e f = rw (e, f)
 
+panel-contrast : (r : List ℕ) → at r contrastAt ≡ panelOf (drop panelAt r) .contrast
+unfolding panelOf
+panel-contrast r = sym (getD-drop 43 r 155 0)
+
+panel-backlight : (r : List ℕ) → flagAt r backlightAt ≡ panelOf (drop panelAt r) .backlight .on
+unfolding panelOf
+panel-backlight r = sym (ap (λ (n : ℕ). eqb n 1) (getD-drop 156 (drop 43 r) 0 0 ∙ getD-drop 43 r 156 0))
+
+panel-minutes : (r : List ℕ) → at r minutesAt ≡ panelOf (drop panelAt r) .backlight .minutes
+unfolding panelOf
+panel-minutes r = sym (getD-drop 156 (drop 43 r) 1 0 ∙ getD-drop 43 r 157 0)
+
 pub shown : (s : State) → Fits s → Shown s (encodeOf s)
 shown s f =
     let z = sized s f in
     let r = encodeOf s in
     record {
-      contrast = contrast-read s z;
-      backlight = sym (ap (λ (n : ℕ). eqb n 1) (getD-drop 199 r 0 0)) ∙ ap (λ (b : Backlight). b .on) (backlight-read s z);
-      minutes = sym (getD-drop 199 r 1 0) ∙ ap (λ (b : Backlight). b .minutes) (backlight-read s z);
+      contrast = panel-contrast r ∙ ap (λ (q : Panel). q .contrast) (panel-read s z);
+      backlight = panel-backlight r ∙ ap (λ (q : Panel). q .backlight .on) (panel-read s z);
+      minutes = panel-minutes r ∙ ap (λ (q : Panel). q .backlight .minutes) (panel-read s z);
       count = sym (cong-pair (getD-drop 40 r 0 0) (getD-drop 40 r 1 0)) ∙ ap (λ (n : Refusals). n .count) (refusals-read s z);
       last = sym (getD-drop 40 r 2 0) ∙ ap (λ (n : Refusals). n .last) (refusals-read s z);
       flow = sym (ap (λ (n : ℕ). eqb n 1) (getD-drop 37 r 0 0)) ∙ ap (λ (w : Flow). w .on) (flow-read s z);

@@ -6,6 +6,7 @@ use mathlib.Core.List.{List, [], _∷_}
 use Prim.Native.Nat.{ℕ}
 use borrow.Author.Tests.{ne-eqb}
 use lib.ListN.{drop}
+use lib.Seq.{drop-drop, getD-drop}
 use Rattle.queue.specs.declared.Flow.{Flow}
 use Rattle.queue.specs.Record.{at, bit}
 use Rattle.state.specs.declared.Phase.{Phase}
@@ -20,7 +21,7 @@ use Rattle.state.specs.declared.Serial.{Serial}
 use Rattle.state.specs.declared.Backlight.{Backlight}
 use Rattle.state.specs.declared.Panel.{Panel}
 use Rattle.state.specs.State.{state}
-use Rattle.record.specs.Layout.{phaseAt, codeAt, gotAt, argumentsAt, inlineAt, uploadAt, textAt, drawingAt, flowAt, refusalsAt, barsAt, barSize, stripsAt, stripSize, serialAt, contrastAt, backlightAt}
+use Rattle.record.specs.Layout.{phaseAt, codeAt, gotAt, argumentsAt, inlineAt, uploadAt, textAt, drawingAt, flowAt, refusalsAt, panelAt, barsAt, barSize, panelStrips, stripsAt, stripSize, panelSerial, serialAt, panelContrast, contrastAt, panelBacklight, backlightAt}
 use Rattle.record.specs.Reading.{manyOf, inlineOf, uploadOf, phaseOf, argumentsIn, textOf, drawingOf, flowOf, refusalsOf, portOf}
 use Rattle.record.specs.Reading.{slotOf, stripOf, serialOf, backlightOf, panelOf, decodeOf}
 use Rattle.record.specs.Writing.{low, high, gatheringBytes, dataBytes, uploadBytes}
@@ -70,10 +71,11 @@ port-is r p a t d f n ep ea et ed ef en = rw (ep, ea, et, ed, ef, en)
 
 pub panel-is : (r : List ℕ) (a : List BarSlot) (b : List Strip) (s : Serial) (n : ℕ) (l : Backlight) → a ≡ manyOf slotOf barSize (drop barsAt r) 16
     → b ≡ manyOf stripOf stripSize (drop stripsAt r) 8 → s ≡ serialOf (drop serialAt r) → n ≡ at r contrastAt → l ≡ backlightOf (drop backlightAt r)
-    → record { bars = a; strips = b; serial = s; contrast = n; backlight = l } ≡ panelOf r
+    → record { bars = a; strips = b; serial = s; contrast = n; backlight = l } ≡ panelOf (drop panelAt r)
 unfolding panelOf
-panel-is r a b s n l ea eb es en el = rw (ea, eb, es, en, el)
+panel-is r a b s n l ea eb es en el =
+    rw (drop-drop panelStrips panelAt r, drop-drop panelSerial panelAt r, getD-drop panelAt r panelContrast 0, drop-drop panelBacklight panelAt r, ea, eb, es, en, el)
 
-pub state-is : (r : List ℕ) (p : Port) (q : Panel) → p ≡ portOf r → q ≡ panelOf r → state p q ≡ decodeOf r
+pub state-is : (r : List ℕ) (p : Port) (q : Panel) → p ≡ portOf r → q ≡ panelOf (drop panelAt r) → state p q ≡ decodeOf r
 unfolding decodeOf
 state-is r p q ep eq = rw (ep, eq)

@@ -1,6 +1,6 @@
 -- Where the parts of the state stand in its record: the same numbers as the constants of the code.
 -- Assumes nothing.
-use Prim.Native.Nat.{ℕ}
+use Prim.Native.Nat.{ℕ, _+_}
 
 -- 0 idle, 1 prefix, 2 gathering, 3 in line, 4 upload
 abbrev pub phaseAt : ℕ
@@ -50,33 +50,60 @@ refusalsAt = 40
 abbrev pub lastRefusalAt : ℕ
 lastRefusalAt = 42
 
+-- what follows belongs to the display, what stands in front of it to one line
+abbrev pub panelAt : ℕ
+panelAt = 43
+
+abbrev pub panelSize : ℕ
+panelSize = 158
+
+-- ---- where the parts of the panel stand behind its front, and in the record
+
 -- sixteen bars: on, kind, x1, y1, x2, y2, value
+abbrev pub panelBars : ℕ
+panelBars = 0
+
 abbrev pub barsAt : ℕ
-barsAt = 43
+barsAt = panelAt + panelBars
 
 abbrev pub barSize : ℕ
 barSize = 7
 
 -- eight strips: on, x1, y1, x2, y2
+abbrev pub panelStrips : ℕ
+panelStrips = 112
+
 abbrev pub stripsAt : ℕ
-stripsAt = 155
+stripsAt = panelAt + panelStrips
 
 abbrev pub stripSize : ℕ
 stripSize = 5
 
 -- serial: on, a, b
+abbrev pub panelSerial : ℕ
+panelSerial = 152
+
 abbrev pub serialAt : ℕ
-serialAt = 195
+serialAt = panelAt + panelSerial
 
 -- contrast, backlight on, minutes
+abbrev pub panelContrast : ℕ
+panelContrast = 155
+
 abbrev pub contrastAt : ℕ
-contrastAt = 198
+contrastAt = panelAt + panelContrast
+
+abbrev pub panelBacklight : ℕ
+panelBacklight = 156
 
 abbrev pub backlightAt : ℕ
-backlightAt = 199
+backlightAt = panelAt + panelBacklight
+
+abbrev pub panelMinutes : ℕ
+panelMinutes = 157
 
 abbrev pub minutesAt : ℕ
-minutesAt = 200
+minutesAt = panelAt + panelMinutes
 
 abbrev pub recordSize : ℕ
-recordSize = 201
+recordSize = panelAt + panelSize

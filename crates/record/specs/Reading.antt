@@ -21,7 +21,7 @@ use Rattle.state.specs.declared.Backlight.{Backlight}
 use Rattle.state.specs.declared.Panel.{Panel}
 use Rattle.state.specs.declared.State.{State}
 use Rattle.state.specs.State.{barOf, barSlot, strip, state}
-use Rattle.record.specs.Layout.{phaseAt, codeAt, gotAt, argumentsAt, inlineAt, uploadAt, textAt, drawingAt, flowAt, refusalsAt, barsAt, barSize, stripsAt, stripSize, serialAt, contrastAt, backlightAt}
+use Rattle.record.specs.Layout.{phaseAt, codeAt, gotAt, argumentsAt, inlineAt, uploadAt, textAt, drawingAt, flowAt, refusalsAt, panelAt, panelBars, barSize, panelStrips, stripSize, panelSerial, panelContrast, panelBacklight}
 
 -- a number of two bytes, low byte first
 abbrev pub pairAt : List ℕ → ℕ → ℕ
@@ -105,15 +105,16 @@ serialOf l = record { on = flagAt l 0; a = at l 1; b = at l 2 }
 abbrev pub backlightOf : List ℕ → Backlight
 backlightOf l = record { on = flagAt l 0; minutes = at l 1 }
 
+-- from the panel's own front
 unfoldable pub panelOf : List ℕ → Panel
-panelOf r =
+panelOf l =
     record {
-      bars = manyOf slotOf barSize (drop barsAt r) 16;
-      strips = manyOf stripOf stripSize (drop stripsAt r) 8;
-      serial = serialOf (drop serialAt r);
-      contrast = at r contrastAt;
-      backlight = backlightOf (drop backlightAt r);
+      bars = manyOf slotOf barSize (drop panelBars l) 16;
+      strips = manyOf stripOf stripSize (drop panelStrips l) 8;
+      serial = serialOf (drop panelSerial l);
+      contrast = at l panelContrast;
+      backlight = backlightOf (drop panelBacklight l);
     }
 
 unfoldable pub decodeOf : List ℕ → State
-decodeOf r = state (portOf r) (panelOf r)
+decodeOf r = state (portOf r) (panelOf (drop panelAt r))

@@ -83,7 +83,7 @@ panelBytes q = manyBytes slotBytes (q .bars) ++ (manyBytes stripBytes (q .strips
 unfoldable pub encodeOf : State → List ℕ
 encodeOf s = portBytes (s .port) ++ panelBytes (s .panel)
 
--- ---- what the contracts of private functions cite: l written over g from index k on, as far as g goes
+-- ---- l written over g from index k on, as far as g goes
 
 unfoldable pub over : List ℕ → ℕ → List ℕ → List ℕ
 over [] k g = g

@@ -3,13 +3,13 @@ mod reading;
 mod writing;
 
 use queue::Flow;
+pub use reading::decode_port;
 use reading::flow_of;
 use reading::panel_of;
-use reading::port_of;
 use state::State;
 use state::is_well_formed;
 use writing::encode_panel;
-use writing::encode_port;
+pub use writing::encode_port;
 ghost use mathlib.Core.Path.{_≡_};
 ghost use mathlib.Core.Bool.{_&&_};
 ghost use lib.ListN.{length};
@@ -51,6 +51,9 @@ pub const REFUSAL_COUNT: usize = 40;
 
 pub const LAST_REFUSAL: usize = 42;
 
+// From here on what belongs to the display.
+pub const PANEL: usize = 43;
+
 // Sixteen bars: on, kind, x1, y1, x2, y2, value.
 pub const FIRST_BAR: usize = 43;
 
@@ -77,7 +80,7 @@ pub fn decode(r: &[u8]) -> State
     ensures { λ s. ⌜ s ≡ decodeOf (now (r .entry)) ⌝ }
 {
     State {
-        port: port_of(r),
+        port: decode_port(r),
         panel: panel_of(r),
     }
 }

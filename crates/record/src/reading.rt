@@ -36,7 +36,7 @@ ghost use mathlib.Core.Path.{_≡_};
 ghost use Prim.Native.Nat.{_+_, _*_, _<_, _≤_};
 ghost use lib.ListN.{length, drop};
 ghost use Rattle.queue.specs.Record.{at, bytesFrom};
-ghost use Rattle.record.specs.Layout.{argumentsAt, inlineAt, uploadAt, textAt, drawingAt, flowAt, refusalsAt, barsAt, barSize, stripsAt, stripSize, serialAt, backlightAt};
+ghost use Rattle.record.specs.Layout.{argumentsAt, inlineAt, uploadAt, textAt, drawingAt, flowAt, refusalsAt, panelAt, barsAt, barSize, stripsAt, stripSize, serialAt, backlightAt};
 ghost use Rattle.record.specs.Reading.{manyOf, inlineOf, uploadOf, phaseOf, argumentsIn, textOf, drawingOf, flowOf, refusalsOf, portOf};
 ghost use Rattle.record.specs.Reading.{slotOf, stripOf, serialOf, backlightOf, panelOf};
 
@@ -208,7 +208,8 @@ fn refusals_of(r: &[u8]) -> Refusals
     }
 }
 
-pub fn port_of(r: &[u8]) -> Port
+// The port that a record says; a short record goes on with zeros.
+pub fn decode_port(r: &[u8]) -> Port
     ensures { λ p. ⌜ p ≡ portOf (now (r .entry)) ⌝ }
 {
     Port {
@@ -302,7 +303,7 @@ fn backlight_of(r: &[u8]) -> Backlight
 }
 
 pub fn panel_of(r: &[u8]) -> Panel
-    ensures { λ q. ⌜ q ≡ panelOf (now (r .entry)) ⌝ }
+    ensures { λ q. ⌜ q ≡ panelOf (drop panelAt (now (r .entry))) ⌝ }
 {
     Panel {
         bars: bars_of(r),

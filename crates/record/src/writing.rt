@@ -210,6 +210,7 @@ fn encode_phase(port: Port, out: &mut [u8])
     put(out, UPLOAD, &upload);
 }
 
+// Writes the bytes of a port over the first bytes, as far as there are any; all others stay.
 pub fn encode_port(port: Port, out: &mut [u8])
     ensures { λ _. ⌜ (now (out .exit) ≡ over (portBytes port) phaseAt (now (out .entry))) × (length (port .args) ≡ 6) ⌝ }
 {

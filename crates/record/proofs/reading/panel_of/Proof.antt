@@ -21,7 +21,7 @@ backlight-of-requires : tie.Need-backlight-of-requires
 backlight-of-requires c κs = search needs
 
 returns : tie.Need-returns
-returns c = panel-is _ _ _ _ _ _ (c .before .before .before .before .bars-of .ensures) (c .before .before .before .strips-of .ensures) (c .before .before .serial-of .ensures) (c .before .byte-at .ensures) (c .backlight-of .ensures)
+returns c = panel-is (c .before .before .before .before .before .before .args .r .now) _ _ _ _ _ (c .before .before .before .before .bars-of .ensures) (c .before .before .before .strips-of .ensures) (c .before .before .serial-of .ensures) (c .before .byte-at .ensures) (c .backlight-of .ensures)
 
 pub panel-of-spec : {M : Type 1} → statement M
 panel-of-spec =

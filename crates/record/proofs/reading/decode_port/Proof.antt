@@ -1,9 +1,9 @@
--- `port_of` meets its contract.
+-- `decode_port` meets its contract.
 -- Assumes nothing.
 use borrow.Author.Needs.{needs}
 use Rattle.record.proofs.Ways.{port-is}
-use Rattle.record.proofs.reading.port_of.Statement.{statement}
-use Rattle.record.proofs.reading.port_of.Tie as tie
+use Rattle.record.proofs.reading.decode_port.Statement.{statement}
+use Rattle.record.proofs.reading.decode_port.Tie as tie
 
 phase-of-requires : tie.Need-phase-of-requires
 phase-of-requires c κs = search needs
@@ -26,8 +26,8 @@ refusals-of-requires c κs = search needs
 returns : tie.Need-returns
 returns c = port-is _ _ _ _ _ _ _ (c .before .before .before .before .before .phase-of .ensures) (c .before .before .before .before .arguments-in .ensures) (c .before .before .before .text-of .ensures) (c .before .before .drawing-of .ensures) (c .before .flow-of .ensures) (c .refusals-of .ensures)
 
-pub port-of-spec : {M : Type 1} → statement M
-port-of-spec =
+pub decode-port-spec : {M : Type 1} → statement M
+decode-port-spec =
     tie.close
     (tie.spec
     phase-of-requires
