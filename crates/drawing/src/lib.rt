@@ -5,61 +5,60 @@ use outcome::Outcome;
 use outcome::done;
 use outcome::put_text;
 use outcome::refused;
-use outcome::with_port;
 use refusals::CORNERS_OUT_OF_ORDER;
 use state::Drawing;
-use state::State;
+use state::Port;
 ghost use mathlib.Core.Path.{_≡_};
+ghost use Rattle.state.specs.State.{withDrawing};
 ghost use Rattle.rules.specs.Drawing.{clear, setColour, drawPixel, drawLine, ordered, drawFrame, fillRectangle};
-ghost use Rattle.outcome.specs.Contract.{Sets, Paints};
-ghost use Rattle.drawing.specs.Drawing.{withDrawingOf};
+ghost use Rattle.outcome.specs.Contract.{unlent, lent, untold, told, Obeys};
 
-fn with_drawing(state: State, drawing: Drawing) -> State
-    ensures { λ r. ⌜ r ≡ withDrawingOf state drawing ⌝ }
+fn with_drawing(port: Port, drawing: Drawing) -> Port
+    ensures { λ r. ⌜ r ≡ withDrawing port drawing ⌝ }
 {
-    let mut port = state.port;
-    port.drawing = drawing;
-    with_port(state, port)
+    let mut next = port;
+    next.drawing = drawing;
+    next
 }
 
 // The whole framebuffer white, and the text point home.
-pub fn clear(framebuffer: &mut [u8], state: State) -> Outcome
-    ensures { λ r. ⌜ Paints clear state (now (framebuffer .entry)) (now (framebuffer .exit)) r ⌝ }
+pub fn clear(framebuffer: &mut [u8], port: Port) -> Outcome
+    ensures { λ r. ⌜ Obeys untold clear port (lent (now (framebuffer .entry)) (now (framebuffer .exit))) unlent unlent r ⌝ }
 {
     scroll::clear(framebuffer);
-    let mut text = state.port.text;
+    let mut text = port.text;
     text.x = text.left as u16;
     text.y = text.top;
-    done(put_text(state, text))
+    done(put_text(port, text))
 }
 
-pub fn set_colour(state: State, colour: u8) -> Outcome
-    ensures { λ r. ⌜ Sets (λ w. setColour w colour) state r ⌝ }
+pub fn set_colour(port: Port, colour: u8) -> Outcome
+    ensures { λ r. ⌜ Obeys untold (λ w. setColour w colour) port unlent unlent unlent r ⌝ }
 {
     let c = Colour::from_byte(colour);
-    let mut drawing = state.port.drawing;
+    let mut drawing = port.drawing;
     drawing.colour = c;
-    done(with_drawing(state, drawing))
+    done(with_drawing(port, drawing))
 }
 
-pub fn draw_pixel(framebuffer: &mut [u8], state: State, x: u8, y: u8) -> Outcome
-    ensures { λ r. ⌜ Paints (λ w. drawPixel w x y) state (now (framebuffer .entry)) (now (framebuffer .exit)) r ⌝ }
+pub fn draw_pixel(framebuffer: &mut [u8], port: Port, x: u8, y: u8) -> Outcome
+    ensures { λ r. ⌜ Obeys untold (λ w. drawPixel w x y) port (lent (now (framebuffer .entry)) (now (framebuffer .exit))) unlent unlent r ⌝ }
 {
-    let colour = state.port.drawing.colour;
+    let colour = port.drawing.colour;
     plot(framebuffer, x as u16, y as u16, colour);
-    done(state)
+    done(port)
 }
 
 // The end is kept as it came, beyond the framebuffer too.
-pub fn draw_line(framebuffer: &mut [u8], state: State, x1: u8, y1: u8, x2: u8, y2: u8) -> Outcome
-    ensures { λ r. ⌜ Paints (λ w. drawLine w x1 y1 x2 y2) state (now (framebuffer .entry)) (now (framebuffer .exit)) r ⌝ }
+pub fn draw_line(framebuffer: &mut [u8], port: Port, x1: u8, y1: u8, x2: u8, y2: u8) -> Outcome
+    ensures { λ r. ⌜ Obeys untold (λ w. drawLine w x1 y1 x2 y2) port (lent (now (framebuffer .entry)) (now (framebuffer .exit))) unlent unlent r ⌝ }
 {
-    let mut drawing = state.port.drawing;
+    let mut drawing = port.drawing;
     let colour = drawing.colour;
     line::draw_line(framebuffer, x1, y1, x2, y2, colour);
     drawing.x = x2;
     drawing.y = y2;
-    done(with_drawing(state, drawing))
+    done(with_drawing(port, drawing))
 }
 
 // Corners in order.
@@ -74,36 +73,36 @@ pub fn is_ordered(x1: u8, y1: u8, x2: u8, y2: u8) -> bool
 
 pub fn draw_frame(
     framebuffer: &mut [u8],
-    state: State,
+    port: Port,
     colour: u8,
     x1: u8,
     y1: u8,
     x2: u8,
     y2: u8,
 ) -> Outcome
-    ensures { λ r. ⌜ Paints (λ w. drawFrame w colour x1 y1 x2 y2) state (now (framebuffer .entry)) (now (framebuffer .exit)) r ⌝ }
+    ensures { λ r. ⌜ Obeys untold (λ w. drawFrame w colour x1 y1 x2 y2) port (lent (now (framebuffer .entry)) (now (framebuffer .exit))) unlent unlent r ⌝ }
 {
     if !is_ordered(x1, y1, x2, y2) {
-        return refused(state, CORNERS_OUT_OF_ORDER);
+        return refused(port, CORNERS_OUT_OF_ORDER);
     }
     rectangle::draw_frame(framebuffer, x1, y1, x2, y2, Colour::from_byte(colour));
-    done(state)
+    done(port)
 }
 
 pub fn fill_rectangle(
     framebuffer: &mut [u8],
-    state: State,
+    port: Port,
     colour: u8,
     x1: u8,
     y1: u8,
     x2: u8,
     y2: u8,
 ) -> Outcome
-    ensures { λ r. ⌜ Paints (λ w. fillRectangle w colour x1 y1 x2 y2) state (now (framebuffer .entry)) (now (framebuffer .exit)) r ⌝ }
+    ensures { λ r. ⌜ Obeys untold (λ w. fillRectangle w colour x1 y1 x2 y2) port (lent (now (framebuffer .entry)) (now (framebuffer .exit))) unlent unlent r ⌝ }
 {
     if !is_ordered(x1, y1, x2, y2) {
-        return refused(state, CORNERS_OUT_OF_ORDER);
+        return refused(port, CORNERS_OUT_OF_ORDER);
     }
     rectangle::fill_rectangle(framebuffer, x1, y1, x2, y2, Colour::from_byte(colour));
-    done(state)
+    done(port)
 }

@@ -1,6 +1,6 @@
 -- From an equation of a rule to what its function promises.
 -- Assumes nothing.
-use mathlib.Core.Path.{_≡_, _∙_, refl, sym, ap}
+use mathlib.Core.Path.{_≡_, _∙_, refl, sym, ap, subst}
 use mathlib.Core.List.{List, [], _∷_}
 use Prim.Native.Nat.{ℕ, _+_, _%_}
 use Rattle.state.specs.declared.Phase.the-variants.{Idle}
@@ -114,6 +114,44 @@ module _ {t : Told} {rule : World → Ruled} {pt : Port} {G S P : Loan} {r : Out
       → rule (world (found G g) (found S s) (state pt (panelOf (found P p)))) ≡ done (world (left G g) (left S s) (state pt' q)) (a ∷ b ∷ [])) → Obeys t rule pt G S P r
   unfolding sentBy
   obeys-set-two pt' q a b f u e = by-done pt' _ (λ p. q) f u e
+
+-- ---- from a function to one that is lent more, and to another rule that says the same
+
+pub record Moved : Type 0 where
+  pub from-framebuffer : List ℕ
+  pub from-store : List ℕ
+  pub from-panel : List ℕ
+  pub to-framebuffer : List ℕ
+  pub to-store : List ℕ
+  pub to-panel : List ℕ
+
+abbrev pub moved : Loan → Loan → Loan → List ℕ → List ℕ → List ℕ → Moved
+moved G S P g s p =
+    record {
+      from-framebuffer = found G g;
+      from-store = found S s;
+      from-panel = found P p;
+      to-framebuffer = left G g;
+      to-store = left S s;
+      to-panel = left P p;
+    }
+
+pub obeys-as : {t t' : Told} {of rule : World → Ruled} {pt : Port} {G S P G' S' P' : Loan} {r : Outcome} → Obeys t rule pt G S P r
+    → ((g : List ℕ) → True t' g → True t g)
+    → ((g s p : List ℕ) → moved G S P (found G' g) (found S' s) (found P' p) ≡ moved G' S' P' g s p)
+    → ((g s p : List ℕ) → True t' (found G' g)
+    → of (world (found G' g) (found S' s) (state pt (panelOf (found P' p)))) ≡ rule (world (found G' g) (found S' s) (state pt (panelOf (found P' p)))))
+    → Obeys t' of pt G' S' P' r
+obeys-as {t = t} {rule = rule} {pt = pt} {G' = G'} {S' = S'} {P' = P'} {r = r} o k u e =
+    record {
+      came = λ g s p h.
+          rw (e g s p h)
+          (subst
+          (λ (m : Moved). True t (m .from-framebuffer)
+          → Came (held (m .from-framebuffer) (m .from-store) (m .from-panel) pt) (rule (world (m .from-framebuffer) (m .from-store) (state pt (panelOf (m .from-panel)))))
+          (held (m .to-framebuffer) (m .to-store) (m .to-panel) (r .port)) (sentBy (r .reply)))
+          (u g s p) (o .came (found G' g) (found S' s) (found P' p)) (k (found G' g) h));
+    }
 
 -- ---- an outcome made of a port that a call made
 

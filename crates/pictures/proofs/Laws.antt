@@ -20,10 +20,7 @@ use Rattle.state.specs.declared.State.{State}
 use Rattle.state.specs.Soundness.{inlineBytes}
 use Rattle.rules.specs.World.{World, world, quietly, refused}
 use Rattle.rules.specs.Drawing.{ordered}
-use Rattle.rules.specs.Pictures.{bitmapIn, bitmapAt, showBitmap, beginInline, inlineData}
-use Rattle.outcome.specs.declared.Outcome.{Outcome}
-use Rattle.outcome.specs.Outcome.{inPhaseOf}
-use Rattle.outcome.specs.Contract.{Paints, Shows}
+use Rattle.rules.specs.Pictures.{inPhase, bitmapIn, bitmapAt, showBitmap, beginInline, inlineData}
 
 module _ (g s : List ℕ) (st : State) (f : List ℕ) (x y : ℕ) (c : Check) (checked : c ≡ checkOf (isBitmap f)) where
   pub bitmap-23 : c ≡ Malformed → bitmapIn (world g s st) f x y ≡ refused 23 []
@@ -44,11 +41,6 @@ pub show-found : (w : World) (n x y p a z : ℕ) (f : Found) (l : List ℕ) → 
 unfolding showBitmap bitmapAt
 show-found w n x y p a z f l e h d = rw (← e, h, d)
 
--- the file's picture is the command's
-pub shown : {st : State} {g g' s : List ℕ} {r : Outcome} (n x y : ℕ) (l : List ℕ) → Paints (λ w. bitmapIn w l x y) st g g' r
-    → showBitmap (world g s st) n x y ≡ bitmapIn (world g s st) l x y → Shows (λ w. showBitmap w n x y) st g g' s r
-shown {s = s} n x y l p e = record { came = rw e (p .came s) }
-
 -- ---- data in line
 
 pub inline-18 : (w : World) (x1 y1 x2 y2 : ℕ) (t : Bool) → t ≡ ordered x1 y1 x2 y2 → not t ≡ true → beginInline w x1 y1 x2 y2 ≡ refused 18 []
@@ -56,15 +48,15 @@ unfolding beginInline
 inline-18 w x1 y1 x2 y2 t e f = rw (← e, f)
 
 pub inline-done : (g s : List ℕ) (st : State) (x1 y1 x2 y2 : ℕ) (t : Bool) → t ≡ ordered x1 y1 x2 y2 → not t ≡ false
-    → beginInline (world g s st) x1 y1 x2 y2 ≡ quietly (world g s (inPhaseOf st (Inline x1 y1 x2 y2 0)))
+    → beginInline (world g s st) x1 y1 x2 y2 ≡ quietly (inPhase (world g s st) (Inline x1 y1 x2 y2 0))
 unfolding beginInline
 inline-done g s st x1 y1 x2 y2 t e f = rw (← e, f)
 
 module _ (g s : List ℕ) (st : State) (x1 y1 x2 y2 d b : ℕ) (g' : List ℕ) (n : ℕ) (painted : g' ≡ inlineByte x1 y1 x2 y2 d b g) (all : n ≡ inlineBytes x1 y1 x2 y2) where
-  pub data-more : d + 1 < n → inlineData (world g s st) x1 y1 x2 y2 d b ≡ quietly (world g' s (inPhaseOf st (Inline x1 y1 x2 y2 (d + 1))))
+  pub data-more : d + 1 < n → inlineData (world g s st) x1 y1 x2 y2 d b ≡ quietly (inPhase (world g' s st) (Inline x1 y1 x2 y2 (d + 1)))
   unfolding inlineData
   data-more l = rw (← all, lt-ltb (d + 1) n l, painted)
 
-  pub data-last : n ≤ d + 1 → inlineData (world g s st) x1 y1 x2 y2 d b ≡ quietly (world g' s (inPhaseOf st Idle))
+  pub data-last : n ≤ d + 1 → inlineData (world g s st) x1 y1 x2 y2 d b ≡ quietly (inPhase (world g' s st) Idle)
   unfolding inlineData
   data-last l = rw (← all, le-ltb (d + 1) n l, painted)

@@ -20,18 +20,18 @@ use refusals::CORNERS_OUT_OF_ORDER;
 use refusals::MALFORMED_FILE;
 use refusals::NO_SUCH_FILE;
 use state::Phase;
-use state::State;
+use state::Port;
 use state::inline_bytes;
 ghost use Rattle.rules.specs.Pictures.{bitmapIn, showBitmap, beginInline, inlineData};
-ghost use Rattle.outcome.specs.Contract.{Sets, Paints, Shows};
+ghost use Rattle.outcome.specs.Contract.{unlent, lent, untold, told, Obeys};
 
 // A bitmap from its file, its upper left corner at (x, y).
-fn show_file(framebuffer: &mut [u8], state: State, file: &[u8], x: u8, y: u8) -> Outcome
-    ensures { λ r. ⌜ Paints (λ w. bitmapIn w (now (file .entry)) x y) state (now (framebuffer .entry)) (now (framebuffer .exit)) r ⌝ }
+fn show_file(framebuffer: &mut [u8], port: Port, file: &[u8], x: u8, y: u8) -> Outcome
+    ensures { λ r. ⌜ Obeys untold (λ w. bitmapIn w (now (file .entry)) x y) port (lent (now (framebuffer .entry)) (now (framebuffer .exit))) unlent unlent r ⌝ }
 {
     let check = check_bitmap(file);
     let Check::Good = check else {
-        return refused(state, MALFORMED_FILE);
+        return refused(port, MALFORMED_FILE);
     };
     let bits = rest(file, BITMAP_HEADER);
     paint_packed(
@@ -42,18 +42,18 @@ fn show_file(framebuffer: &mut [u8], state: State, file: &[u8], x: u8, y: u8) ->
         bitmap_height(file),
         bits,
     );
-    done(state)
+    done(port)
 }
 
 pub fn show_bitmap(
     framebuffer: &mut [u8],
     store: &[u8],
-    state: State,
+    port: Port,
     number: u8,
     x: u8,
     y: u8,
 ) -> Outcome
-    ensures { λ r. ⌜ Shows (λ w. showBitmap w number x y) state (now (framebuffer .entry)) (now (framebuffer .exit)) (now (store .entry)) r ⌝ }
+    ensures { λ r. ⌜ Obeys untold (λ w. showBitmap w number x y) port (lent (now (framebuffer .entry)) (now (framebuffer .exit))) (lent (now (store .entry)) (now (store .entry))) unlent r ⌝ }
 {
     let found = find(store, BITMAP, number);
     let Found::At {
@@ -62,20 +62,20 @@ pub fn show_bitmap(
         size,
     } = found
     else {
-        return refused(state, NO_SUCH_FILE);
+        return refused(port, NO_SUCH_FILE);
     };
     let file = part(store, start, size);
-    show_file(framebuffer, state, file, x, y)
+    show_file(framebuffer, port, file, x, y)
 }
 
-pub fn begin_inline(state: State, x1: u8, y1: u8, x2: u8, y2: u8) -> Outcome
-    ensures { λ r. ⌜ Sets (λ w. beginInline w x1 y1 x2 y2) state r ⌝ }
+pub fn begin_inline(port: Port, x1: u8, y1: u8, x2: u8, y2: u8) -> Outcome
+    ensures { λ r. ⌜ Obeys untold (λ w. beginInline w x1 y1 x2 y2) port unlent unlent unlent r ⌝ }
 {
     if !is_ordered(x1, y1, x2, y2) {
-        return refused(state, CORNERS_OUT_OF_ORDER);
+        return refused(port, CORNERS_OUT_OF_ORDER);
     }
     done(in_phase(
-        state,
+        port,
         Phase::Inline {
             x1: x1,
             y1: y1,
@@ -89,7 +89,7 @@ pub fn begin_inline(state: State, x1: u8, y1: u8, x2: u8, y2: u8) -> Outcome
 // Byte number `came` of the data, painted as it comes; one behind the last ends the data too.
 pub fn inline_data(
     framebuffer: &mut [u8],
-    state: State,
+    port: Port,
     x1: u8,
     y1: u8,
     x2: u8,
@@ -97,13 +97,13 @@ pub fn inline_data(
     came: u16,
     byte: u8,
 ) -> Outcome
-    ensures { λ r. ⌜ Paints (λ w. inlineData w x1 y1 x2 y2 came byte) state (now (framebuffer .entry)) (now (framebuffer .exit)) r ⌝ }
+    ensures { λ r. ⌜ Obeys untold (λ w. inlineData w x1 y1 x2 y2 came byte) port (lent (now (framebuffer .entry)) (now (framebuffer .exit))) unlent unlent r ⌝ }
 {
     paint_inline(framebuffer, x1, y1, x2, y2, came, byte);
     let all = inline_bytes(x1, y1, x2, y2);
     if came as u32 + 1 < all as u32 {
         return done(in_phase(
-            state,
+            port,
             Phase::Inline {
                 x1: x1,
                 y1: y1,
@@ -113,5 +113,5 @@ pub fn inline_data(
             },
         ));
     }
-    done(in_phase(state, Phase::Idle))
+    done(in_phase(port, Phase::Idle))
 }

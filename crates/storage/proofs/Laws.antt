@@ -16,14 +16,16 @@ use Rattle.directory.specs.declared.Found.the-variants.{At, Nothing}
 use Rattle.directory.specs.Directory.{entries, totalsOf, isFile, hasFile, findIn, findOf, lengthOf}
 use Rattle.files.specs.Files.{unusedOf, entry, appended, isThere, deleted, purged, storedByte}
 use Rattle.state.specs.declared.Phase.the-variants.{Idle, Upload}
+use Rattle.state.specs.declared.Port.{Port}
 use Rattle.state.specs.declared.State.{State}
 use Rattle.state.specs.State.{startText}
-use Rattle.rules.specs.World.{world, done, quietly, refused}
+use Rattle.rules.specs.World.{world, putText, done, quietly, refused}
+use Rattle.rules.specs.Pictures.{inPhase}
 use Rattle.rules.specs.Text.{withFont}
 use Rattle.rules.specs.Files.{inUse, lacksSpace, beginUpload, uploadData, deleteFile, purge}
 use Rattle.outcome.specs.declared.Outcome.{Outcome}
 use Rattle.outcome.specs.declared.Reply.{Reply}
-use Rattle.outcome.specs.Outcome.{inPhaseOf, putTextOf, refusedState, sendingOf, oneByte}
+use Rattle.outcome.specs.Outcome.{refusedPort, sendingOf, oneByte}
 use Rattle.storage.specs.Storage.{tellingOf}
 
 -- ---- the tests
@@ -79,8 +81,8 @@ away-used s k n z t e h = rw (← e, h)
 pub away-room : (s : List ℕ) (k n z : ℕ) (t u : Bool) → t ≡ inUse s k n → t ≡ false → u ≡ lacksSpace s z → u ≡ (inUse s k n || lacksSpace s z)
 away-room s k n z t u e h f = f ∙ rw (← e, h)
 
-pub telling-is : (st n : State) (k : ℕ) (q : Reply) (r : Outcome) → n ≡ refusedState st k → q ≡ oneByte 8 → r ≡ sendingOf n q → r ≡ tellingOf st k
-telling-is st n k q r e f h = h ∙ rw (e, f)
+pub telling-is : (pt n : Port) (k : ℕ) (q : Reply) (r : Outcome) → n ≡ refusedPort pt k → q ≡ oneByte 8 → r ≡ sendingOf n q → r ≡ tellingOf pt k
+telling-is pt n k q r e f h = h ∙ rw (e, f)
 
 -- ---- uploads
 
@@ -94,12 +96,12 @@ module _ (g s : List ℕ) (st : State) (k n z : ℕ) where
   upload-24 t u e h f o = rw (← e, h, ← f, o)
 
   pub upload-done : (t u : Bool) → t ≡ inUse s k n → t ≡ false → u ≡ lacksSpace s z → u ≡ false
-      → beginUpload (world g s st) k n z ≡ done (world g s (inPhaseOf st (Upload k n z 0 false 0))) (1 ∷ [])
+      → beginUpload (world g s st) k n z ≡ done (inPhase (world g s st) (Upload k n z 0 false 0)) (1 ∷ [])
   unfolding beginUpload
   upload-done t u e h f o = rw (← e, h, ← f, o)
 
   module _ (i c b : ℕ) where
-    pub data-echoed : (v : Bool) → not v ≡ true → uploadData (world g s st) k n z i v c b ≡ done (world g s (inPhaseOf st (Upload k n z i true b))) (b ∷ [])
+    pub data-echoed : (v : Bool) → not v ≡ true → uploadData (world g s st) k n z i v c b ≡ done (inPhase (world g s st) (Upload k n z i true b)) (b ∷ [])
     unfolding uploadData
     data-echoed v e = rw (not-true v e)
 
@@ -108,12 +110,12 @@ module _ (g s : List ℕ) (st : State) (k n z : ℕ) where
     data-26 v e h = rw (not-false v e, ne-eqb b 1 h)
 
     pub data-more : (v : Bool) (s' : List ℕ) → not v ≡ false → b ≡ 1 → i + 1 < z → s' ≡ storedByte s i c
-        → uploadData (world g s st) k n z i v c b ≡ quietly (world g s' (inPhaseOf st (Upload k n z (i + 1) false 0)))
+        → uploadData (world g s st) k n z i v c b ≡ quietly (inPhase (world g s' st) (Upload k n z (i + 1) false 0))
     unfolding uploadData
     data-more v s' e h l f = rw (not-false v e, eq-eqb b 1 h, lt-ltb (i + 1) z l, f)
 
     pub data-last : (v : Bool) (s' s'' : List ℕ) → not v ≡ false → b ≡ 1 → z ≤ i + 1 → s' ≡ storedByte s i c → s'' ≡ appended s' (entry k n z)
-        → uploadData (world g s st) k n z i v c b ≡ quietly (world g s'' (inPhaseOf st Idle))
+        → uploadData (world g s st) k n z i v c b ≡ quietly (inPhase (world g s'' st) Idle)
     unfolding uploadData
     data-last v s' s'' e h l f d = rw (not-false v e, eq-eqb b 1 h, le-ltb (i + 1) z l, d, f)
 
@@ -129,7 +131,7 @@ module _ (g s : List ℕ) (st : State) (t n : ℕ) where
   delete-22 b l e h = rw (lt-leb 2 t l, ← e, h)
 
   module _ (s' : List ℕ) (b : Bool) (l : t < 2) (e : b ≡ hasFile (entries s) (t + 1) n) (h : not b ≡ false) (gone : s' ≡ deleted s (t + 1) n) where
-    pub delete-chosen : t + 1 ≡ 1 → n ≡ st .port .text .font → deleteFile (world g s st) t n ≡ quietly (world g s' (putTextOf st (withFont (st .port .text) 1)))
+    pub delete-chosen : t + 1 ≡ 1 → n ≡ st .port .text .font → deleteFile (world g s st) t n ≡ quietly (putText (world g s' st) (withFont (st .port .text) 1))
     unfolding deleteFile
     delete-chosen k f = rw (lt-leb 2 t l, ← e, h, ← gone, eq-eqb (t + 1) 1 k, eq-eqb n (st .port .text .font) f)
 
@@ -151,6 +153,6 @@ module _ (g s : List ℕ) (st : State) (a b : ℕ) where
   purge-second e h = rw (eq-eqb a 89 e, ne-eqb b 33 h)
 
   pub purge-done : (s' : List ℕ) (h : ℕ) → height g ≡ h → a ≡ 89 → b ≡ 33 → s' ≡ purged s
-      → purge (world g s st) a b ≡ quietly (world g s' (putTextOf st (startText h)))
+      → purge (world g s st) a b ≡ quietly (putText (world g s' st) (startText h))
   unfolding purge
   purge-done s' h t e f d = rw (eq-eqb a 89 e, eq-eqb b 33 f, d, t)

@@ -23,13 +23,13 @@ use refusals::NUMBER_IN_USE;
 use refusals::UNKNOWN_TYPE;
 use refusals::UPLOAD_ABORTED;
 use state::Phase;
-use state::State;
+use state::Port;
 use state::start_text;
 ghost use mathlib.Core.Path.{_≡_};
 ghost use mathlib.Core.Bool.{_||_};
 ghost use Rattle.directory.specs.Directory.{entries, hasFile};
 ghost use Rattle.rules.specs.Files.{inUse, lacksSpace, beginUpload, uploadData, deleteFile, purge};
-ghost use Rattle.outcome.specs.Contract.{Stores, StoresOn};
+ghost use Rattle.outcome.specs.Contract.{unlent, lent, untold, told, Obeys};
 ghost use Rattle.storage.specs.Storage.{tellingOf};
 
 // The replies of the upload's handshake, and the host's confirmation.
@@ -100,23 +100,23 @@ pub fn is_turned_away(store: &[u8], kind: u8, number: u8, size: u16) -> bool
 }
 
 // A refusal that is answered.
-fn telling(state: State, number: u8) -> Outcome
-    ensures { λ r. ⌜ r ≡ tellingOf state number ⌝ }
+fn telling(port: Port, number: u8) -> Outcome
+    ensures { λ r. ⌜ r ≡ tellingOf port number ⌝ }
 {
-    sending(refuse(state, number), one_byte(TURNED_AWAY))
+    sending(refuse(port, number), one_byte(TURNED_AWAY))
 }
 
-pub fn begin_upload(store: &[u8], state: State, kind: u8, number: u8, size: u16) -> Outcome
-    ensures { λ r. ⌜ Stores (λ w. beginUpload w kind number size) state (now (store .entry)) (now (store .entry)) r ⌝ }
+pub fn begin_upload(store: &[u8], port: Port, kind: u8, number: u8, size: u16) -> Outcome
+    ensures { λ r. ⌜ Obeys untold (λ w. beginUpload w kind number size) port unlent (lent (now (store .entry)) (now (store .entry))) unlent r ⌝ }
 {
     if is_in_use(store, kind, number) {
-        return telling(state, NUMBER_IN_USE);
+        return telling(port, NUMBER_IN_USE);
     }
     if lacks_space(store, size) {
-        return telling(state, NO_SPACE);
+        return telling(port, NO_SPACE);
     }
     let next = in_phase(
-        state,
+        port,
         Phase::Upload {
             kind: kind,
             number: number,
@@ -132,7 +132,7 @@ pub fn begin_upload(store: &[u8], state: State, kind: u8, number: u8, size: u16)
 // A data byte is echoed and waits; confirmed, it is stored at the next free byte, and at the last one the record is written.
 pub fn upload_data(
     store: &mut [u8],
-    state: State,
+    port: Port,
     kind: u8,
     number: u8,
     size: u16,
@@ -141,11 +141,11 @@ pub fn upload_data(
     held: u8,
     byte: u8,
 ) -> Outcome
-    ensures { λ r. ⌜ Stores (λ w. uploadData w kind number size stored waiting held byte) state (now (store .entry)) (now (store .exit)) r ⌝ }
+    ensures { λ r. ⌜ Obeys untold (λ w. uploadData w kind number size stored waiting held byte) port unlent (lent (now (store .entry)) (now (store .exit))) unlent r ⌝ }
 {
     if !waiting {
         let next = in_phase(
-            state,
+            port,
             Phase::Upload {
                 kind: kind,
                 number: number,
@@ -158,12 +158,12 @@ pub fn upload_data(
         return sending(next, one_byte(byte));
     }
     if byte != CONFIRM {
-        return refused(state, UPLOAD_ABORTED);
+        return refused(port, UPLOAD_ABORTED);
     }
     store_byte(store, stored, held);
     if stored as u32 + 1 < size as u32 {
         let next = in_phase(
-            state,
+            port,
             Phase::Upload {
                 kind: kind,
                 number: number,
@@ -176,42 +176,42 @@ pub fn upload_data(
         return done(next);
     }
     append(store, kind, number, size);
-    done(in_phase(state, Phase::Idle))
+    done(in_phase(port, Phase::Idle))
 }
 
 // A deleted font that was the current one leaves font 1.
-pub fn delete_file(store: &mut [u8], state: State, of_type: u8, number: u8) -> Outcome
-    ensures { λ r. ⌜ Stores (λ w. deleteFile w «of_type» number) state (now (store .entry)) (now (store .exit)) r ⌝ }
+pub fn delete_file(store: &mut [u8], port: Port, of_type: u8, number: u8) -> Outcome
+    ensures { λ r. ⌜ Obeys untold (λ w. deleteFile w «of_type» number) port unlent (lent (now (store .entry)) (now (store .exit))) unlent r ⌝ }
 {
     if of_type >= TYPES {
-        return refused(state, UNKNOWN_TYPE);
+        return refused(port, UNKNOWN_TYPE);
     }
     let kind = of_type + 1;
     if !is_stored(store, kind, number) {
-        return refused(state, NO_SUCH_FILE);
+        return refused(port, NO_SUCH_FILE);
     }
     delete(store, kind, number);
     if kind != FONT {
-        return done(state);
+        return done(port);
     }
-    let mut text = state.port.text;
+    let mut text = port.text;
     if number != text.font {
-        return done(state);
+        return done(port);
     }
     text.font = BUILT_IN_FONT;
-    done(put_text(state, text))
+    done(put_text(port, text))
 }
 
 // Text settings go back to the start, and the text point home.
-pub fn purge(store: &mut [u8], state: State, height: u8, first: u8, second: u8) -> Outcome
-    ensures { λ r. ⌜ StoresOn height (λ w. purge w first second) state (now (store .entry)) (now (store .exit)) r ⌝ }
+pub fn purge(store: &mut [u8], port: Port, height: u8, first: u8, second: u8) -> Outcome
+    ensures { λ r. ⌜ Obeys (told height) (λ w. purge w first second) port unlent (lent (now (store .entry)) (now (store .exit))) unlent r ⌝ }
 {
     if first != PURGE_FIRST {
-        return refused(state, UNKNOWN_TYPE);
+        return refused(port, UNKNOWN_TYPE);
     }
     if second != PURGE_SECOND {
-        return refused(state, UNKNOWN_TYPE);
+        return refused(port, UNKNOWN_TYPE);
     }
     files::purge(store);
-    done(put_text(state, start_text(height)))
+    done(put_text(port, start_text(height)))
 }

@@ -1,6 +1,6 @@
 -- The rules of text, each way by itself.
 -- Assumes nothing.
-use mathlib.Core.Path.{_≡_, _∙_}
+use mathlib.Core.Path.{_≡_, _∙_, sym}
 use mathlib.Core.List.{List, []}
 use native.Mathlib.Nat.{mul-le-mul}
 use Prim.Native.Nat.{ℕ, _+_, _-_, _*_, _<_, _≤_}
@@ -17,33 +17,46 @@ use Rattle.fonts.proofs.Laws.{good-is, malformed-is}
 use Rattle.fonts.specs.Fonts.{isFont, nominalWidth, heightOf}
 use Rattle.builtin_font.specs.Table.{table}
 use Rattle.state.specs.declared.State.{State}
-use Rattle.rules.specs.World.{world, quietly, refused}
+use Rattle.rules.specs.World.{world, putText, quietly, refused}
 use Rattle.rules.specs.Fonts.{opened, shut, openedAt, openFont}
+use Rattle.text.specs.declared.Source.{Source}
+use Rattle.text.specs.declared.Source.the-variants.{BuiltIn, Stored, Refused}
+use Rattle.text.specs.Sources.{openedBy}
 use Rattle.rules.specs.Text.{withFont, atPoint, fontChosen, chooseFont, placeX, placeY, placeIn, setPlace, characterIn, character}
-use Rattle.outcome.specs.declared.Outcome.{Outcome}
-use Rattle.outcome.specs.Outcome.{putTextOf}
-use Rattle.outcome.specs.Contract.{SetsOn, StoresOn, PaintsOn, ShowsOn}
 
--- ---- the font of a number
+-- ---- where the font of a number lies
 
 module _ (h : ℕ) (s : List ℕ) (n : ℕ) where
-  pub open-built-in : (l : List ℕ) → n ≡ 1 → l ≡ table → openFont h s n ≡ opened l
-  unfolding openFont
-  open-built-in l e d = rw (eq-eqb n 1 e, d)
+  pub source-built-in : n ≡ 1 → openedBy s BuiltIn ≡ openFont h s n
+  unfolding openFont openedBy
+  source-built-in e = rw (eq-eqb n 1 e)
 
   module _ (f : Found) (other : n ≡ 1 → ⊥) (lookup : f ≡ findOf s 1 n) where
-    pub open-22 : f ≡ Nothing → openFont h s n ≡ shut 22
-    unfolding openFont openedAt
-    open-22 e = rw (ne-eqb n 1 other, ← lookup, e)
+    pub source-22 : f ≡ Nothing → openedBy s (Refused 22) ≡ openFont h s n
+    unfolding openFont openedAt openedBy
+    source-22 e = rw (ne-eqb n 1 other, ← lookup, e)
 
     module _ (p a z : ℕ) (l : List ℕ) (c : Check) (there : f ≡ At p a z) (lent : l ≡ take z (drop a s)) (checked : c ≡ checkOf (isFont h l)) where
-      pub open-23 : c ≡ Malformed → openFont h s n ≡ shut 23
-      unfolding openFont openedAt
-      open-23 e = rw (ne-eqb n 1 other, ← lookup, there, ← lent, malformed-is c (isFont h l) checked e)
+      pub source-23 : c ≡ Malformed → openedBy s (Refused 23) ≡ openFont h s n
+      unfolding openFont openedAt openedBy
+      source-23 e = rw (ne-eqb n 1 other, ← lookup, there, ← lent, malformed-is c (isFont h l) checked e)
 
-      pub open-good : c ≡ Good → openFont h s n ≡ opened l
-      unfolding openFont openedAt
-      open-good e = rw (ne-eqb n 1 other, ← lookup, there, ← lent, good-is c (isFont h l) checked e)
+      pub source-stored : c ≡ Good → openedBy s (Stored a z) ≡ openFont h s n
+      unfolding openFont openedAt openedBy
+      source-stored e = rw (ne-eqb n 1 other, ← lookup, there, ← lent, good-is c (isFont h l) checked e)
+
+  module _ (c : Source) (sought : openedBy s c ≡ openFont h s n) where
+    pub from-built-in : (l : List ℕ) → c ≡ BuiltIn → l ≡ table → openFont h s n ≡ opened l
+    unfolding openedBy
+    from-built-in l e d = sym sought ∙ rw (e, d)
+
+    pub from-stored : (a z : ℕ) (l : List ℕ) → c ≡ Stored a z → l ≡ take z (drop a s) → openFont h s n ≡ opened l
+    unfolding openedBy
+    from-stored a z l e d = sym sought ∙ rw (e, d)
+
+    pub from-refused : (k : ℕ) → c ≡ Refused k → openFont h s n ≡ shut k
+    unfolding openedBy
+    from-refused k e = sym sought ∙ rw e
 
 -- ---- choosing it
 
@@ -52,7 +65,7 @@ module _ (g s : List ℕ) (st : State) (h n : ℕ) (tall : height g ≡ h) where
   unfolding chooseFont fontChosen
   choose-shut r e = rw (tall, e)
 
-  pub choose-opened : (l : List ℕ) → openFont h s n ≡ opened l → chooseFont (world g s st) n ≡ quietly (world g s (putTextOf st (withFont (st .port .text) n)))
+  pub choose-opened : (l : List ℕ) → openFont h s n ≡ opened l → chooseFont (world g s st) n ≡ quietly (putText (world g s st) (withFont (st .port .text) n))
   unfolding chooseFont fontChosen
   choose-opened l e = rw (tall, e)
 
@@ -90,7 +103,7 @@ module _ (g s : List ℕ) (st : State) (h c r : ℕ) (l : List ℕ) (tall : heig
     unfolding placeIn
     place-off-below b d = rw (ne-eqb c 0 column, ne-eqb r 0 row, ← x-is, lt-leb width x b, tall, ← y-is, le-leb h y d)
 
-    pub place-done : x < width → y < h → placeIn (world g s st) c r (opened l) ≡ quietly (world g s (putTextOf st (atPoint (st .port .text) x y)))
+    pub place-done : x < width → y < h → placeIn (world g s st) c r (opened l) ≡ quietly (putText (world g s st) (atPoint (st .port .text) x y))
     unfolding placeIn
     place-done b d = rw (ne-eqb c 0 column, ne-eqb r 0 row, ← x-is, lt-leb width x b, tall, ← y-is, lt-leb h y d)
 
@@ -99,13 +112,9 @@ module _ (g s : List ℕ) (st : State) (h c r : ℕ) (tall : height g ≡ h) whe
   unfolding setPlace placeIn
   place-shut k e = rw (tall, e)
 
-  place-opened : (l : List ℕ) → openFont h s (st .port .text .font) ≡ opened l → setPlace (world g s st) c r ≡ placeIn (world g s st) c r (opened l)
+  pub place-opened : (l : List ℕ) → openFont h s (st .port .text .font) ≡ opened l → setPlace (world g s st) c r ≡ placeIn (world g s st) c r (opened l)
   unfolding setPlace
   place-opened l e = rw (tall, e)
-
-pub placed : {h : ℕ} {st : State} {s : List ℕ} {o : Outcome} (c r : ℕ) (l : List ℕ) → SetsOn h (λ w. placeIn w c r (opened l)) st o
-    → openFont h s (st .port .text .font) ≡ opened l → StoresOn h (λ w. setPlace w c r) st s s o
-placed {h = h} {st = st} {s = s} c r l p e = record { came = λ g t. rw (place-opened g s st h c r t l e) (p .came g s t) }
 
 -- ---- characters
 
@@ -114,10 +123,6 @@ module _ (g s : List ℕ) (st : State) (h c : ℕ) (tall : height g ≡ h) where
   unfolding character characterIn
   character-shut k e = rw (tall, e)
 
-  character-opened : (l : List ℕ) → openFont h s (st .port .text .font) ≡ opened l → character (world g s st) c ≡ characterIn (world g s st) c (opened l)
+  pub character-opened : (l : List ℕ) → openFont h s (st .port .text .font) ≡ opened l → character (world g s st) c ≡ characterIn (world g s st) c (opened l)
   unfolding character
   character-opened l e = rw (tall, e)
-
-pub drawn : {h : ℕ} {st : State} {g g' s : List ℕ} {o : Outcome} (c : ℕ) (l : List ℕ) → PaintsOn h (λ w. characterIn w c (opened l)) st g g' o
-    → openFont h s (st .port .text .font) ≡ opened l → ShowsOn h (λ w. character w c) st g g' s o
-drawn {h = h} {st = st} {g = g} {s = s} c l p e = record { came = λ t. rw (character-opened g s st h c t l e) (p .came s t) }

@@ -17,10 +17,9 @@ use Rattle.opened_font.specs.declared.Glyph.the-variants.{At as GlyphAt, Missin
 use Rattle.opened_font.specs.Glyphs.{glyphOf}
 use Rattle.state.specs.declared.State.{State}
 use Rattle.state.specs.declared.Text.{Text}
-use Rattle.rules.specs.World.{world, quietly, refused}
+use Rattle.rules.specs.World.{world, putText, quietly, refused}
 use Rattle.rules.specs.Fonts.{opened}
 use Rattle.rules.specs.Text.{atPoint, Place as Ruled, place, nowhere, wrapped, fitted, movedUp, glyphAt, glyphOn, characterIn}
-use Rattle.outcome.specs.Outcome.{putTextOf}
 use Rattle.text.specs.declared.Place.{Place}
 use Rattle.text.specs.declared.Place.the-variants.{At, Nowhere}
 use Rattle.text.specs.Places.{placeOf}
@@ -121,7 +120,7 @@ module _ (g s : List ℕ) (st : State) (h b : ℕ) (l : List ℕ) (q : Glyph) (t
     draw-29 e = rw (← glyph, there, tall, nowhere-is (fitted h v f (wrapped (st .port .text) v f)) (sym found ∙ e))
 
     pub draw-done : (x y u a d : ℕ) (g' g'' bits : List ℕ) → a ≡ v → d ≡ st .port .text .«char_space» → c ≡ At x y u → g' ≡ movedUp u g → bits ≡ drop o l → g'' ≡ packedBox x y v f bits g'
-        → characterIn (world g s st) b (opened l) ≡ quietly (world g'' s (putTextOf st (atPoint (st .port .text) (x + a + d) y)))
+        → characterIn (world g s st) b (opened l) ≡ quietly (putText (world g'' s st) (atPoint (st .port .text) (x + a + d) y))
     unfolding characterIn glyphOn glyphAt
     draw-done x y u a d g' g'' bits ea ed e up cut paint =
         rw (← glyph, there, tall, at-is (fitted h v f (wrapped (st .port .text) v f)) x y u (sym found ∙ e), paint, up, cut, ea, ed)

@@ -23,21 +23,29 @@ use refusals::NO_GLYPH;
 use refusals::NO_SUCH_FILE;
 use refusals::OUT_OF_BOUNDS;
 use scroll::scroll_up;
-use state::State;
+use state::Port;
 use state::Text;
 ghost use mathlib.Core.Path.{_≡_};
 ghost use mathlib.Core.List.{[], _∷_};
 ghost use Prim.Native.Nat.{_+_, _*_, _-_, _<_, _≤_};
-ghost use Rattle.rules.specs.World.{port, putText, quietly};
+ghost use Rattle.rules.specs.World.{putText, quietly};
 ghost use Rattle.rules.specs.Text.{atPoint, home, withWrap, withScroll, withMetrics, chooseFont, placeIn, setPlace, wrapped, fitted, movedUp, characterIn, character};
-ghost use Rattle.rules.specs.Fonts.{opened};
-ghost use Rattle.outcome.specs.Contract.{Sets, SetsOn, StoresOn, PaintsOn, ShowsOn};
+ghost use Rattle.rules.specs.Fonts.{opened, openFont};
+ghost use Rattle.outcome.specs.Contract.{unlent, lent, untold, told, Obeys};
 ghost use Rattle.text.specs.Places.{placeOf};
+ghost use Rattle.text.specs.Sources.{openedBy};
 
 // Where a character goes, and by how many rows the framebuffer moves up first.
 enum Place {
     At { x: u16, y: u16, up: u16 },
     Nowhere,
+}
+
+// Where a font lies.
+enum Source {
+    BuiltIn,
+    Stored { start: usize, size: usize },
+    Refused { refusal: u8 },
 }
 
 fn word(x: u8) -> u16
@@ -66,67 +74,65 @@ fn product(a: u32, b: u32) -> u32
 }
 
 // The text point to the margins.
-pub fn home(state: State) -> Outcome
-    ensures { λ r. ⌜ Sets (λ w. quietly (putText w (home (port w .text)))) state r ⌝ }
+pub fn home(port: Port) -> Outcome
+    ensures { λ r. ⌜ Obeys untold (λ w. quietly (putText w (home (w .state .port .text)))) port unlent unlent unlent r ⌝ }
 {
-    let mut text = state.port.text;
+    let mut text = port.text;
     text.x = text.left as u16;
     text.y = text.top;
-    done(put_text(state, text))
+    done(put_text(port, text))
 }
 
-pub fn set_point(state: State, x: u8, y: u8) -> Outcome
-    ensures { λ r. ⌜ Sets (λ w. quietly (putText w (atPoint (port w .text) x y))) state r ⌝ }
+pub fn set_point(port: Port, x: u8, y: u8) -> Outcome
+    ensures { λ r. ⌜ Obeys untold (λ w. quietly (putText w (atPoint (w .state .port .text) x y))) port unlent unlent unlent r ⌝ }
 {
-    let mut text = state.port.text;
+    let mut text = port.text;
     text.x = x as u16;
     text.y = y;
-    done(put_text(state, text))
+    done(put_text(port, text))
 }
 
-pub fn set_wrap(state: State, on: bool) -> Outcome
-    ensures { λ r. ⌜ Sets (λ w. quietly (putText w (withWrap (port w .text) on))) state r ⌝ }
+pub fn set_wrap(port: Port, on: bool) -> Outcome
+    ensures { λ r. ⌜ Obeys untold (λ w. quietly (putText w (withWrap (w .state .port .text) on))) port unlent unlent unlent r ⌝ }
 {
-    let mut text = state.port.text;
+    let mut text = port.text;
     text.wrap = on;
-    done(put_text(state, text))
+    done(put_text(port, text))
 }
 
-pub fn set_scroll(state: State, on: bool) -> Outcome
-    ensures { λ r. ⌜ Sets (λ w. quietly (putText w (withScroll (port w .text) on))) state r ⌝ }
+pub fn set_scroll(port: Port, on: bool) -> Outcome
+    ensures { λ r. ⌜ Obeys untold (λ w. quietly (putText w (withScroll (w .state .port .text) on))) port unlent unlent unlent r ⌝ }
 {
-    let mut text = state.port.text;
+    let mut text = port.text;
     text.scroll = on;
-    done(put_text(state, text))
+    done(put_text(port, text))
 }
 
 pub fn set_metrics(
-    state: State,
+    port: Port,
     left: u8,
     top: u8,
     char_space: u8,
     line_space: u8,
     scroll_row: u8,
 ) -> Outcome
-    ensures { λ r. ⌜ Sets (λ w. quietly (putText w (withMetrics (port w .text) (left ∷ top ∷ «char_space» ∷ «line_space» ∷ «scroll_row» ∷ [])))) state r ⌝ }
+    ensures { λ r. ⌜ Obeys untold (λ w. quietly (putText w (withMetrics (w .state .port .text) (left ∷ top ∷ «char_space» ∷ «line_space» ∷ «scroll_row» ∷ [])))) port unlent unlent unlent r ⌝ }
 {
-    let mut text = state.port.text;
+    let mut text = port.text;
     text.left = left;
     text.top = top;
     text.char_space = char_space;
     text.line_space = line_space;
     text.scroll_row = scroll_row;
-    done(put_text(state, text))
+    done(put_text(port, text))
 }
 
-// The current font; one in the store is checked whole.
-pub fn choose_font(store: &[u8], state: State, height: u8, number: u8) -> Outcome
-    ensures { λ r. ⌜ StoresOn height (λ w. chooseFont w number) state (now (store .entry)) (now (store .entry)) r ⌝ }
+// Where the font of a number lies, or the number of its refusal. One in the store is checked whole.
+fn find_font(store: &[u8], height: u8, number: u8) -> Source
+    ensures { λ r. ⌜ openedBy (now (store .entry)) r ≡ openFont height (now (store .entry)) number ⌝ }
 {
-    let mut text = state.port.text;
-    text.font = number;
     if number == BUILT_IN_FONT {
-        return done(put_text(state, text));
+        return Source::BuiltIn;
     }
     let found = find(store, FONT, number);
     let Found::At {
@@ -135,14 +141,34 @@ pub fn choose_font(store: &[u8], state: State, height: u8, number: u8) -> Outcom
         size,
     } = found
     else {
-        return refused(state, NO_SUCH_FILE);
+        return Source::Refused {
+            refusal: NO_SUCH_FILE,
+        };
     };
-    let file = part(store, start, size);
-    let check = check_font(file, height);
+    let check = check_font(part(store, start, size), height);
     let Check::Good = check else {
-        return refused(state, MALFORMED_FILE);
+        return Source::Refused {
+            refusal: MALFORMED_FILE,
+        };
     };
-    done(put_text(state, text))
+    Source::Stored {
+        start: start,
+        size: size,
+    }
+}
+
+// The current font.
+pub fn choose_font(store: &[u8], port: Port, height: u8, number: u8) -> Outcome
+    ensures { λ r. ⌜ Obeys (told height) (λ w. chooseFont w number) port unlent (lent (now (store .entry)) (now (store .entry))) unlent r ⌝ }
+{
+    let mut text = port.text;
+    text.font = number;
+    let source = find_font(store, height, number);
+    match source {
+        Source::BuiltIn => done(put_text(port, text)),
+        Source::Stored { start: _, size: _ } => done(put_text(port, text)),
+        Source::Refused { refusal } => refused(port, refusal),
+    }
 }
 
 // The pixel of a column or a row, from 1.
@@ -155,52 +181,43 @@ fn pixel_of(margin: u8, place: u8, size: u8, space: u8) -> u32
 }
 
 // The text point by column and row of a font.
-fn place_in(state: State, height: u8, file: &[u8], column: u8, row: u8) -> Outcome
-    ensures { λ r. ⌜ SetsOn height (λ w. placeIn w column row (opened (now (file .entry)))) state r ⌝ }
+fn place_in(port: Port, height: u8, file: &[u8], column: u8, row: u8) -> Outcome
+    ensures { λ r. ⌜ Obeys (told height) (λ w. placeIn w column row (opened (now (file .entry)))) port unlent unlent unlent r ⌝ }
 {
     if column == 0 {
-        return refused(state, OUT_OF_BOUNDS);
+        return refused(port, OUT_OF_BOUNDS);
     }
     if row == 0 {
-        return refused(state, OUT_OF_BOUNDS);
+        return refused(port, OUT_OF_BOUNDS);
     }
-    let mut text = state.port.text;
+    let mut text = port.text;
     let x = pixel_of(text.left, column, nominal_width(file), text.char_space);
     let y = pixel_of(text.top, row, fonts::height(file), text.line_space);
     if x >= wide(WIDTH) {
-        return refused(state, OUT_OF_BOUNDS);
+        return refused(port, OUT_OF_BOUNDS);
     }
     if y >= long(height) {
-        return refused(state, OUT_OF_BOUNDS);
+        return refused(port, OUT_OF_BOUNDS);
     }
     text.x = x as u16;
     text.y = y as u8;
-    done(put_text(state, text))
+    done(put_text(port, text))
 }
 
-pub fn set_place(store: &[u8], state: State, height: u8, column: u8, row: u8) -> Outcome
-    ensures { λ r. ⌜ StoresOn height (λ w. setPlace w column row) state (now (store .entry)) (now (store .entry)) r ⌝ }
+pub fn set_place(store: &[u8], port: Port, height: u8, column: u8, row: u8) -> Outcome
+    ensures { λ r. ⌜ Obeys (told height) (λ w. setPlace w column row) port unlent (lent (now (store .entry)) (now (store .entry))) unlent r ⌝ }
 {
-    let font = state.port.text.font;
-    if font == BUILT_IN_FONT {
-        let table = builtin_font::file();
-        return place_in(state, height, &table, column, row);
+    let source = find_font(store, height, port.text.font);
+    match source {
+        Source::BuiltIn => {
+            let table = builtin_font::file();
+            place_in(port, height, &table, column, row)
+        }
+        Source::Stored { start, size } => {
+            place_in(port, height, part(store, start, size), column, row)
+        }
+        Source::Refused { refusal } => refused(port, refusal),
     }
-    let found = find(store, FONT, font);
-    let Found::At {
-        record: _,
-        start,
-        size,
-    } = found
-    else {
-        return refused(state, NO_SUCH_FILE);
-    };
-    let file = part(store, start, size);
-    let check = check_font(file, height);
-    let Check::Good = check else {
-        return refused(state, MALFORMED_FILE);
-    };
-    place_in(state, height, file, column, row)
 }
 
 // A character that passes the last column goes to the next line, onto the framebuffer moved up, or to the top.
@@ -267,8 +284,8 @@ fn move_up(framebuffer: &mut [u8], rows: u16)
 }
 
 // A character of a font, which is opened for it.
-fn draw_in(framebuffer: &mut [u8], state: State, height: u8, file: &[u8], byte: u8) -> Outcome
-    ensures { λ r. ⌜ PaintsOn height (λ w. characterIn w byte (opened (now (file .entry)))) state (now (framebuffer .entry)) (now (framebuffer .exit)) r ⌝ }
+fn draw_in(framebuffer: &mut [u8], port: Port, height: u8, file: &[u8], byte: u8) -> Outcome
+    ensures { λ r. ⌜ Obeys (told height) (λ w. characterIn w byte (opened (now (file .entry)))) port (lent (now (framebuffer .entry)) (now (framebuffer .exit))) unlent unlent r ⌝ }
 {
     let glyph = glyph_of(file, byte);
     let Glyph::At {
@@ -277,49 +294,40 @@ fn draw_in(framebuffer: &mut [u8], state: State, height: u8, file: &[u8], byte: 
         height: tall,
     } = glyph
     else {
-        return refused(state, NO_GLYPH);
+        return refused(port, NO_GLYPH);
     };
-    let mut text = state.port.text;
+    let mut text = port.text;
     let place = place_for(text, width, tall, height);
     let Place::At { x, y, up } = place else {
-        return refused(state, GLYPH_DOES_NOT_FIT);
+        return refused(port, GLYPH_DOES_NOT_FIT);
     };
     move_up(framebuffer, up);
     let bits = rest(file, offset);
     paint_packed(framebuffer, x, y as u8, width, tall, bits);
     text.x = x + word(width) + word(text.char_space);
     text.y = y as u8;
-    done(put_text(state, text))
+    done(put_text(port, text))
 }
 
 // Any byte but 254 outside a command.
 pub fn draw_character(
     framebuffer: &mut [u8],
     store: &[u8],
-    state: State,
+    port: Port,
     height: u8,
     byte: u8,
 ) -> Outcome
-    ensures { λ r. ⌜ ShowsOn height (λ w. character w byte) state (now (framebuffer .entry)) (now (framebuffer .exit)) (now (store .entry)) r ⌝ }
+    ensures { λ r. ⌜ Obeys (told height) (λ w. character w byte) port (lent (now (framebuffer .entry)) (now (framebuffer .exit))) (lent (now (store .entry)) (now (store .entry))) unlent r ⌝ }
 {
-    let font = state.port.text.font;
-    if font == BUILT_IN_FONT {
-        let table = builtin_font::file();
-        return draw_in(framebuffer, state, height, &table, byte);
+    let source = find_font(store, height, port.text.font);
+    match source {
+        Source::BuiltIn => {
+            let table = builtin_font::file();
+            draw_in(framebuffer, port, height, &table, byte)
+        }
+        Source::Stored { start, size } => {
+            draw_in(framebuffer, port, height, part(store, start, size), byte)
+        }
+        Source::Refused { refusal } => refused(port, refusal),
     }
-    let found = find(store, FONT, font);
-    let Found::At {
-        record: _,
-        start,
-        size,
-    } = found
-    else {
-        return refused(state, NO_SUCH_FILE);
-    };
-    let file = part(store, start, size);
-    let check = check_font(file, height);
-    let Check::Good = check else {
-        return refused(state, MALFORMED_FILE);
-    };
-    draw_in(framebuffer, state, height, file, byte)
 }

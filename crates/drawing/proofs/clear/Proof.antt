@@ -1,5 +1,6 @@
+use mathlib.Core.Path.{refl}
 use Rattle.drawing.proofs.Laws.{clear-is}
-use Rattle.outcome.proofs.Laws.{paints-done, done-with}
+use Rattle.outcome.proofs.Laws.{obeys-done, done-with}
 use borrow.Author.Needs.{needs}
 use Rattle.drawing.proofs.clear.Statement.{statement}
 use Rattle.drawing.proofs.clear.Tie as tie
@@ -20,7 +21,7 @@ same-length : tie.Need-same-length
 same-length c = search needs
 
 returns : tie.Need-returns
-returns c = paints-done _ (done-with (c .before .put-text .ensures) (c .done .ensures)) (λ s. clear-is _ _ _ _ (c .before .before .before .before .before .before .clear .ensures))
+returns c = obeys-done _ (done-with (c .before .put-text .ensures) (c .done .ensures)) (λ p. refl) (λ g s p t. clear-is _ _ _ _ (c .before .before .before .before .before .before .clear .ensures))
 
 pub clear-spec : {M : Type 1} → statement M
 clear-spec =

@@ -1,5 +1,6 @@
+use mathlib.Core.Path.{refl}
 use Rattle.drawing.proofs.Laws.{line-is}
-use Rattle.outcome.proofs.Laws.{paints-done, done-with}
+use Rattle.outcome.proofs.Laws.{obeys-done, done-with}
 use borrow.Author.Needs.{needs}
 use Rattle.drawing.proofs.draw_line.Statement.{statement}
 use Rattle.drawing.proofs.draw_line.Tie as tie
@@ -17,7 +18,7 @@ same-length : tie.Need-same-length
 same-length c = search needs
 
 returns : tie.Need-returns
-returns c = paints-done _ (done-with (c .before .with-drawing .ensures) (c .done .ensures)) (λ s. line-is _ _ _ _ _ _ _ _ (c .before .before .before .before .draw-line .ensures))
+returns c = obeys-done _ (done-with (c .before .with-drawing .ensures) (c .done .ensures)) (λ p. refl) (λ g s p t. line-is _ _ _ _ _ _ _ _ (c .before .before .before .before .draw-line .ensures))
 
 pub draw-line-spec : {M : Type 1} → statement M
 draw-line-spec =

@@ -1,5 +1,6 @@
+use mathlib.Core.Path.{refl}
 use Rattle.drawing.proofs.Laws.{pixel-is}
-use Rattle.outcome.proofs.Laws.{paints-done}
+use Rattle.outcome.proofs.Laws.{obeys-done}
 use borrow.Author.Needs.{needs}
 use Rattle.drawing.proofs.draw_pixel.Statement.{statement}
 use Rattle.drawing.proofs.draw_pixel.Tie as tie
@@ -14,7 +15,7 @@ same-length : tie.Need-same-length
 same-length c = search needs
 
 returns : tie.Need-returns
-returns c = paints-done _ (c .done .ensures) (λ s. pixel-is _ _ _ _ _ _ (c .before .before .before .plot .ensures))
+returns c = obeys-done _ (c .done .ensures) (λ p. refl) (λ g s p t. pixel-is _ _ _ _ _ _ (c .before .before .before .plot .ensures))
 
 pub draw-pixel-spec : {M : Type 1} → statement M
 draw-pixel-spec = tie.close (tie.spec plot-requires done-requires same-length returns)

@@ -1,5 +1,6 @@
+use mathlib.Core.Path.{refl}
 use Rattle.drawing.proofs.Laws.{colour-is}
-use Rattle.outcome.proofs.Laws.{sets-done, done-with}
+use Rattle.outcome.proofs.Laws.{obeys-done, done-with}
 use borrow.Author.Needs.{needs}
 use Rattle.drawing.proofs.set_colour.Statement.{statement}
 use Rattle.drawing.proofs.set_colour.Tie as tie
@@ -14,7 +15,7 @@ done-requires : tie.Need-done-requires
 done-requires c κs = search needs
 
 returns : tie.Need-returns
-returns c = sets-done _ (done-with (c .before .with-drawing .ensures) (c .done .ensures)) (λ g s. colour-is _ _ _ (c .before .before .before .from-byte .ensures))
+returns c = obeys-done _ (done-with (c .before .with-drawing .ensures) (c .done .ensures)) (λ p. refl) (λ g s p t. colour-is _ _ _ (c .before .before .before .from-byte .ensures))
 
 pub set-colour-spec : {M : Type 1} → statement M
 set-colour-spec =

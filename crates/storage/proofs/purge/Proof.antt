@@ -1,5 +1,6 @@
+use mathlib.Core.Path.{refl}
 use Rattle.storage.proofs.Laws.{purge-first, purge-second, purge-done}
-use Rattle.outcome.proofs.Laws.{stores-on-refused, stores-on-done, done-with, put-with}
+use Rattle.outcome.proofs.Laws.{obeys-refused, obeys-done, done-with, put-with}
 use borrow.Author.Needs.{needs}
 use Rattle.storage.proofs.purge.Statement.{statement}
 use Rattle.storage.proofs.purge.Tie as tie
@@ -8,13 +9,13 @@ refused-requires : tie.Need-refused-requires
 refused-requires c κs = search needs
 
 returns : tie.Need-returns
-returns c = stores-on-refused 20 (c .refused .ensures) (λ g t. purge-first _ _ _ _ _ (search needs))
+returns c = obeys-refused 20 (c .refused .ensures) (λ g s p. refl) (λ g s p t. purge-first _ _ _ _ _ (search needs))
 
 refused-requires-2 : tie.Need-refused-requires-2
 refused-requires-2 c κs = search needs
 
 returns-2 : tie.Need-returns-2
-returns-2 c = stores-on-refused 20 (c .refused2 .ensures) (λ g t. purge-second _ _ _ _ _ (search needs) (search needs))
+returns-2 c = obeys-refused 20 (c .refused2 .ensures) (λ g s p. refl) (λ g s p t. purge-second _ _ _ _ _ (search needs) (search needs))
 
 purge-requires : tie.Need-purge-requires
 purge-requires c κs = search needs
@@ -32,7 +33,7 @@ same-length : tie.Need-same-length
 same-length c = search needs
 
 returns-3 : tie.Need-returns-3
-returns-3 c = stores-on-done _ (done-with (put-with (c .before .before .before .before .before .before .before .before .before .before .args .state) (c .before .before .start-text .ensures) (c .before .put-text .ensures)) (c .done .ensures)) (λ g t. purge-done _ _ _ _ _ _ _ t (search needs) (search needs) (c .before .before .before .before .before .purge .ensures))
+returns-3 c = obeys-done _ (done-with (put-with (c .before .before .before .before .before .before .before .before .before .before .args .port) (c .before .before .start-text .ensures) (c .before .put-text .ensures)) (c .done .ensures)) (λ p. refl) (λ g s p t. purge-done _ _ _ _ _ _ _ t (search needs) (search needs) (c .before .before .before .before .before .purge .ensures))
 
 pub purge-spec : {M : Type 1} → statement M
 purge-spec =

@@ -1,86 +1,93 @@
-use Rattle.text.proofs.Laws.{open-built-in, open-22, open-23, open-good, character-shut, drawn}
-use Rattle.outcome.proofs.Laws.{shows-on-refused}
+use mathlib.Core.Path.{refl}
+use Rattle.text.proofs.Laws.{from-built-in, from-stored, from-refused, character-shut, character-opened}
+use Rattle.outcome.proofs.Laws.{obeys-refused, obeys-as}
 use borrow.Author.Needs.{needs}
 use Rattle.text.proofs.draw_character.Statement.{statement}
 use Rattle.text.proofs.draw_character.Tie as tie
+use Rattle.text.proofs.draw_character.Reads as reads
+use Rattle.text.proofs.draw_character.Lts as lts
+use Rattle.builtin_font.proofs.file.Reads as file-reads
+use Rattle.directory.proofs.part.Reads as part-reads
+use Rattle.outcome.proofs.refused.Reads as refused-reads
+use Rattle.text.proofs.draw_in.Reads as draw-in-reads
+use Rattle.text.proofs.find_font.Reads as find-font-reads
 
-file-requires : tie.Need-file-requires
-file-requires c κs = search needs
+-- src/lib.rt:322:9
+find-font-requires : tie.Need-find-font-requires
+find-font-requires c κs = search needs
 
-slice-aggregate-draw-in : tie.Need-slice-aggregate-draw-in
-slice-aggregate-draw-in c = search needs
-
-draw-in-requires : tie.Need-draw-in-requires
-draw-in-requires c κs = search needs
-
-same-length : tie.Need-same-length
-same-length c = search needs
-
-returns : tie.Need-returns
-returns c = drawn _ _ (c .before .before .draw-in .ensures) (open-built-in _ _ _ _ (search needs) (c .before .before .before .before .before .file .ensures))
-
-find-requires : tie.Need-find-requires
-find-requires c κs = search needs
-
-enum-known-found : tie.Need-enum-known-found
-enum-known-found c = search needs
-
+-- src/lib.rt:325:25
 enum-told : tie.Need-enum-told
 enum-told c = search needs
 
-refused-requires : tie.Need-refused-requires
-refused-requires c κs = search needs
+-- src/lib.rt:325:25
+file-requires : tie.Need-file-requires
+file-requires c κs = search needs
 
-returns-2 : tie.Need-returns-2
-returns-2 c = shows-on-refused 22 (c .refused .ensures) (λ t. character-shut _ _ _ _ _ t _ (open-22 _ _ _ _ (search needs) (c .before .before .before .find .ensures) (search needs)))
+-- src/lib.rt:326:48
+slice-aggregate-draw-in : tie.Need-slice-aggregate-draw-in
+slice-aggregate-draw-in c = search needs
 
+-- src/lib.rt:326:13
+draw-in-requires : tie.Need-draw-in-requires
+draw-in-requires c κs = search needs
+
+-- src/lib.rt:328:26
+enum-known-source : tie.Need-enum-known-source
+enum-known-source c = search needs
+
+-- src/lib.rt:329:48
 part-requires : tie.Need-part-requires
 part-requires c κs = search needs
 
-check-font-requires : tie.Need-check-font-requires
-check-font-requires c κs = search needs
-
-enum-told-2 : tie.Need-enum-told-2
-enum-told-2 c = search needs
-
-enum-told-3 : tie.Need-enum-told-3
-enum-told-3 c = search needs
-
-refused-requires-2 : tie.Need-refused-requires-2
-refused-requires-2 c κs = search needs
-
-returns-3 : tie.Need-returns-3
-returns-3 c = shows-on-refused 23 (c .refused2 .ensures) (λ t. character-shut _ _ _ _ _ t _ (open-23 _ _ _ _ (search needs) (c .before .before .before .before .before .before .before .before .find .ensures) _ _ _ _ _ (c .before .before .before .before .before .before .found .given .1) (c .before .before .before .before .part .ensures) (c .before .before .before .check-font .ensures) (search needs)))
-
+-- src/lib.rt:329:13
 draw-in-requires-2 : tie.Need-draw-in-requires-2
 draw-in-requires-2 c κs = search needs
 
+-- src/lib.rt:331:27
+enum-known-source-2 : tie.Need-enum-known-source-2
+enum-known-source-2 c = search needs
+
+-- src/lib.rt:331:40
+refused-requires : tie.Need-refused-requires
+refused-requires c κs = search needs
+
+-- src/lib.rt:313:1
+same-length : tie.Need-same-length
+same-length c = search needs
+
+-- src/lib.rt:313:1
+returns : tie.Need-returns
+returns c = obeys-as (c .before .before .draw-in .ensures) (λ g h. h) (λ g s p. refl) (λ g s p t. character-opened _ _ _ _ _ t _ (from-built-in _ _ _ _ (c .before .before .before .before .before .before .before .before .find-font .ensures) _ (search needs) (c .before .before .before .before .before .file .ensures)))
+
+-- src/lib.rt:313:1
 same-length-2 : tie.Need-same-length-2
 same-length-2 c = search needs
 
-returns-4 : tie.Need-returns-4
-returns-4 c = drawn _ _ (c .before .before .draw-in2 .ensures) (open-good _ _ _ _ (c .before .before .before .before .before .before .before .before .before .before .before .before .if1 .left) (c .before .before .before .before .before .before .before .before .before .before .before .find .ensures) _ _ _ _ _ (c .before .before .before .before .before .before .before .before .before .found .given .1) (c .before .before .before .before .before .before .before .part .ensures) (c .before .before .before .before .before .before .check-font .ensures) (search needs))
+-- src/lib.rt:313:1
+returns-2 : tie.Need-returns-2
+returns-2 c = obeys-as (c .before .before .draw-in2 .ensures) (λ g h. h) (λ g s p. refl) (λ g s p t. character-opened _ _ _ _ _ t _ (from-stored _ _ _ _ (c .before .before .before .before .before .before .before .before .find-font .ensures) _ _ _ (c .before .before .before .before .before .before .source .given .1) (c .before .before .before .part .ensures)))
+
+-- src/lib.rt:313:1
+returns-3 : tie.Need-returns-3
+returns-3 c = obeys-refused _ (c .refused .ensures) (λ g s p. refl) (λ g s p t. character-shut _ _ _ _ _ t _ (from-refused _ _ _ _ (c .before .before .before .before .find-font .ensures) _ (c .before .before .source2 .given .1)))
 
 pub draw-character-spec : {M : Type 1} → statement M
 draw-character-spec =
     tie.close
     (tie.spec
+    find-font-requires
+    enum-told
     file-requires
     slice-aggregate-draw-in
     draw-in-requires
+    enum-known-source
+    part-requires
+    draw-in-requires-2
+    enum-known-source-2
+    refused-requires
     same-length
     returns
-    find-requires
-    enum-known-found
-    enum-told
-    refused-requires
-    returns-2
-    part-requires
-    check-font-requires
-    enum-told-2
-    enum-told-3
-    refused-requires-2
-    returns-3
-    draw-in-requires-2
     same-length-2
-    returns-4)
+    returns-2
+    returns-3)

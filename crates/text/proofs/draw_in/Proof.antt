@@ -1,5 +1,6 @@
+use mathlib.Core.Path.{refl}
 use Rattle.text.proofs.Places.{draw-28, draw-29, draw-done, fits}
-use Rattle.outcome.proofs.Laws.{paints-on-refused, paints-on-done, done-with}
+use Rattle.outcome.proofs.Laws.{obeys-refused, obeys-done, done-with}
 use native.Mathlib.Omega.{arith}
 use borrow.Author.Needs.{needs}
 use Rattle.text.proofs.draw_in.Statement.{statement}
@@ -18,7 +19,7 @@ refused-requires : tie.Need-refused-requires
 refused-requires c κs = search needs
 
 returns : tie.Need-returns
-returns c = paints-on-refused 28 (c .refused .ensures) (λ s t. draw-28 _ _ _ _ _ _ _ t (c .before .before .before .glyph-of .ensures) (search needs))
+returns c = obeys-refused 28 (c .refused .ensures) (λ g s p. refl) (λ g s p t. draw-28 _ _ _ _ _ _ _ t (c .before .before .before .glyph-of .ensures) (search needs))
 
 place-for-requires : tie.Need-place-for-requires
 place-for-requires c κs = search needs
@@ -33,7 +34,7 @@ refused-requires-2 : tie.Need-refused-requires-2
 refused-requires-2 c κs = search needs
 
 returns-2 : tie.Need-returns-2
-returns-2 c = paints-on-refused 29 (c .refused2 .ensures) (λ s t. draw-29 _ _ _ _ _ _ _ t (c .before .before .before .before .before .before .before .before .glyph-of .ensures) _ _ _ _ (c .before .before .before .before .before .before .glyph .given .1) (c .before .before .before .place-for .ensures) (search needs))
+returns-2 c = obeys-refused 29 (c .refused2 .ensures) (λ g s p. refl) (λ g s p t. draw-29 _ _ _ _ _ _ _ t (c .before .before .before .before .before .before .before .before .glyph-of .ensures) _ _ _ _ (c .before .before .before .before .before .before .glyph .given .1) (c .before .before .before .place-for .ensures) (search needs))
 
 move-up-requires : tie.Need-move-up-requires
 move-up-requires c κs = search needs
@@ -72,7 +73,7 @@ same-length : tie.Need-same-length
 same-length c = search needs
 
 returns-3 : tie.Need-returns-3
-returns-3 c = paints-on-done _ (done-with (c .before .put-text .ensures) (c .done .ensures)) (λ s t. draw-done _ _ _ _ _ _ _ t (c .before .before .before .before .before .before .before .before .before .before .before .before .before .before .before .before .before .before .before .before .before .glyph-of .ensures) _ _ _ _ (c .before .before .before .before .before .before .before .before .before .before .before .before .before .before .before .before .before .before .before .glyph .given .1) (c .before .before .before .before .before .before .before .before .before .before .before .before .before .before .before .before .place-for .ensures) _ _ _ _ _ _ _ _ (c .before .before .before .word .ensures .0) (c .before .before .word2 .ensures .0) (c .before .before .before .before .before .before .before .before .before .before .before .before .before .before .place .given .1) (c .before .before .before .before .before .before .before .before .before .before .before .move-up .ensures) (c .before .before .before .before .before .before .before .before .rest .ensures) (c .before .before .before .before .before .before .paint-packed .ensures))
+returns-3 c = obeys-done _ (done-with (c .before .put-text .ensures) (c .done .ensures)) (λ p. refl) (λ g s p t. draw-done _ _ _ _ _ _ _ t (c .before .before .before .before .before .before .before .before .before .before .before .before .before .before .before .before .before .before .before .before .before .glyph-of .ensures) _ _ _ _ (c .before .before .before .before .before .before .before .before .before .before .before .before .before .before .before .before .before .before .before .glyph .given .1) (c .before .before .before .before .before .before .before .before .before .before .before .before .before .before .before .before .place-for .ensures) _ _ _ _ _ _ _ _ (c .before .before .before .word .ensures .0) (c .before .before .word2 .ensures .0) (c .before .before .before .before .before .before .before .before .before .before .before .before .before .before .place .given .1) (c .before .before .before .before .before .before .before .before .before .before .before .move-up .ensures) (c .before .before .before .before .before .before .before .before .rest .ensures) (c .before .before .before .before .before .before .paint-packed .ensures))
 
 pub draw-in-spec : {M : Type 1} → statement M
 draw-in-spec =

@@ -1,5 +1,6 @@
+use mathlib.Core.Path.{refl}
 use Rattle.text.proofs.Laws.{place-no-column, place-no-row, place-off-right, place-off-below, place-done}
-use Rattle.outcome.proofs.Laws.{on-refused, on-done, done-with}
+use Rattle.outcome.proofs.Laws.{obeys-refused, obeys-done, done-with}
 use borrow.Author.Needs.{needs}
 use Rattle.text.proofs.place_in.Statement.{statement}
 use Rattle.text.proofs.place_in.Tie as tie
@@ -8,13 +9,13 @@ refused-requires : tie.Need-refused-requires
 refused-requires c κs = search needs
 
 returns : tie.Need-returns
-returns c = on-refused 17 (c .refused .ensures) (λ g s t. place-no-column _ _ _ _ _ _ _ t (search needs))
+returns c = obeys-refused 17 (c .refused .ensures) (λ g s p. refl) (λ g s p t. place-no-column _ _ _ _ _ _ _ t (search needs))
 
 refused-requires-2 : tie.Need-refused-requires-2
 refused-requires-2 c κs = search needs
 
 returns-2 : tie.Need-returns-2
-returns-2 c = on-refused 17 (c .refused2 .ensures) (λ g s t. place-no-row _ _ _ _ _ _ _ t (search needs) (search needs))
+returns-2 c = obeys-refused 17 (c .refused2 .ensures) (λ g s p. refl) (λ g s p t. place-no-row _ _ _ _ _ _ _ t (search needs) (search needs))
 
 nominal-width-requires : tie.Need-nominal-width-requires
 nominal-width-requires c κs = search needs
@@ -35,7 +36,7 @@ refused-requires-3 : tie.Need-refused-requires-3
 refused-requires-3 c κs = search needs
 
 returns-3 : tie.Need-returns-3
-returns-3 c = on-refused 17 (c .refused3 .ensures) (λ g s t. place-off-right _ _ _ _ _ _ _ t _ _ _ _ (search needs) (search needs) (c .before .before .before .before .before .before .nominal-width .ensures) (c .before .before .before .before .height .ensures) (c .before .before .before .before .before .pixel-of .ensures) (c .before .before .before .pixel-of2 .ensures) (search needs))
+returns-3 c = obeys-refused 17 (c .refused3 .ensures) (λ g s p. refl) (λ g s p t. place-off-right _ _ _ _ _ _ _ t _ _ _ _ (search needs) (search needs) (c .before .before .before .before .before .before .nominal-width .ensures) (c .before .before .before .before .height .ensures) (c .before .before .before .before .before .pixel-of .ensures) (c .before .before .before .pixel-of2 .ensures) (search needs))
 
 long-requires : tie.Need-long-requires
 long-requires c κs = search needs
@@ -44,7 +45,7 @@ refused-requires-4 : tie.Need-refused-requires-4
 refused-requires-4 c κs = search needs
 
 returns-4 : tie.Need-returns-4
-returns-4 c = on-refused 17 (c .refused4 .ensures) (λ g s t. place-off-below _ _ _ _ _ _ _ t _ _ _ _ (c .before .before .before .before .before .before .before .before .before .before .before .if1 .left) (c .before .before .before .before .before .before .before .before .before .before .if2 .left) (c .before .before .before .before .before .before .before .before .nominal-width .ensures) (c .before .before .before .before .before .before .height .ensures) (c .before .before .before .before .before .before .before .pixel-of .ensures) (c .before .before .before .before .before .pixel-of2 .ensures) (search needs) (search needs))
+returns-4 c = obeys-refused 17 (c .refused4 .ensures) (λ g s p. refl) (λ g s p t. place-off-below _ _ _ _ _ _ _ t _ _ _ _ (c .before .before .before .before .before .before .before .before .before .before .before .if1 .left) (c .before .before .before .before .before .before .before .before .before .before .if2 .left) (c .before .before .before .before .before .before .before .before .nominal-width .ensures) (c .before .before .before .before .before .before .height .ensures) (c .before .before .before .before .before .before .before .pixel-of .ensures) (c .before .before .before .before .before .pixel-of2 .ensures) (search needs) (search needs))
 
 cast-text : tie.Need-cast-text
 cast-text c = search needs
@@ -59,7 +60,7 @@ done-requires : tie.Need-done-requires
 done-requires c κs = search needs
 
 returns-5 : tie.Need-returns-5
-returns-5 c = on-done _ (done-with (c .before .put-text .ensures) (c .done .ensures)) (λ g s t. place-done _ _ _ _ _ _ _ t _ _ _ _ (c .before .before .before .before .before .before .before .before .before .before .before .before .if1 .left) (c .before .before .before .before .before .before .before .before .before .before .before .if2 .left) (c .before .before .before .before .before .before .before .before .before .nominal-width .ensures) (c .before .before .before .before .before .before .before .height .ensures) (c .before .before .before .before .before .before .before .before .pixel-of .ensures) (c .before .before .before .before .before .before .pixel-of2 .ensures) (search needs) (search needs))
+returns-5 c = obeys-done _ (done-with (c .before .put-text .ensures) (c .done .ensures)) (λ p. refl) (λ g s p t. place-done _ _ _ _ _ _ _ t _ _ _ _ (c .before .before .before .before .before .before .before .before .before .before .before .before .if1 .left) (c .before .before .before .before .before .before .before .before .before .before .before .if2 .left) (c .before .before .before .before .before .before .before .before .before .nominal-width .ensures) (c .before .before .before .before .before .before .before .height .ensures) (c .before .before .before .before .before .before .before .before .pixel-of .ensures) (c .before .before .before .before .before .before .pixel-of2 .ensures) (search needs) (search needs))
 
 pub place-in-spec : {M : Type 1} → statement M
 place-in-spec =
