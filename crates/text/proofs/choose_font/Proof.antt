@@ -4,58 +4,40 @@ use Rattle.outcome.proofs.Laws.{obeys-refused, obeys-done, done-with}
 use borrow.Author.Needs.{needs}
 use Rattle.text.proofs.choose_font.Statement.{statement}
 use Rattle.text.proofs.choose_font.Tie as tie
-use Rattle.text.proofs.choose_font.Reads as reads
-use Rattle.text.proofs.choose_font.Lts as lts
-use Rattle.outcome.proofs.done.Reads as done-reads
-use Rattle.outcome.proofs.put_text.Reads as put-text-reads
-use Rattle.outcome.proofs.refused.Reads as refused-reads
-use Rattle.text.proofs.find_font.Reads as find-font-reads
 
--- src/lib.rt:166:9
 find-font-requires : tie.Need-find-font-requires
 find-font-requires c κs = search needs
 
--- src/lib.rt:168:33
 enum-told : tie.Need-enum-told
 enum-told c = search needs
 
--- src/lib.rt:168:33
 put-text-requires : tie.Need-put-text-requires
 put-text-requires c κs = search needs
 
--- src/lib.rt:168:28
 done-requires : tie.Need-done-requires
 done-requires c κs = search needs
 
--- src/lib.rt:169:54
 enum-told-2 : tie.Need-enum-told-2
 enum-told-2 c = search needs
 
--- src/lib.rt:169:54
 put-text-requires-2 : tie.Need-put-text-requires-2
 put-text-requires-2 c κs = search needs
 
--- src/lib.rt:169:49
 done-requires-2 : tie.Need-done-requires-2
 done-requires-2 c κs = search needs
 
--- src/lib.rt:170:27
 enum-known-source : tie.Need-enum-known-source
 enum-known-source c = search needs
 
--- src/lib.rt:170:40
 refused-requires : tie.Need-refused-requires
 refused-requires c κs = search needs
 
--- src/lib.rt:161:1
 returns : tie.Need-returns
 returns c = obeys-done _ (done-with (c .before .put-text .ensures) (c .done .ensures)) (λ p. refl) (λ g s p t. choose-opened _ _ _ _ _ t _ (from-built-in _ _ _ _ (c .before .before .before .before .find-font .ensures) _ (search needs) refl))
 
--- src/lib.rt:161:1
 returns-2 : tie.Need-returns-2
 returns-2 c = obeys-done _ (done-with (c .before .put-text2 .ensures) (c .done2 .ensures)) (λ p. refl) (λ g s p t. choose-opened _ _ _ _ _ t _ (from-stored _ _ _ _ (c .before .before .before .before .find-font .ensures) _ _ _ (c .before .before .enum-told2 .given .1) refl))
 
--- src/lib.rt:161:1
 returns-3 : tie.Need-returns-3
 returns-3 c = obeys-refused _ (c .refused .ensures) (λ g s p. refl) (λ g s p t. choose-shut _ _ _ _ _ t _ (from-refused _ _ _ _ (c .before .before .before .before .find-font .ensures) _ (c .before .before .source .given .1)))
 

@@ -4,71 +4,49 @@ use Rattle.outcome.proofs.Laws.{obeys-refused, obeys-as}
 use borrow.Author.Needs.{needs}
 use Rattle.text.proofs.draw_character.Statement.{statement}
 use Rattle.text.proofs.draw_character.Tie as tie
-use Rattle.text.proofs.draw_character.Reads as reads
-use Rattle.text.proofs.draw_character.Lts as lts
-use Rattle.builtin_font.proofs.file.Reads as file-reads
-use Rattle.directory.proofs.part.Reads as part-reads
-use Rattle.outcome.proofs.refused.Reads as refused-reads
-use Rattle.text.proofs.draw_in.Reads as draw-in-reads
-use Rattle.text.proofs.find_font.Reads as find-font-reads
 
--- src/lib.rt:322:9
 find-font-requires : tie.Need-find-font-requires
 find-font-requires c κs = search needs
 
--- src/lib.rt:325:25
 enum-told : tie.Need-enum-told
 enum-told c = search needs
 
--- src/lib.rt:325:25
 file-requires : tie.Need-file-requires
 file-requires c κs = search needs
 
--- src/lib.rt:326:48
 slice-aggregate-draw-in : tie.Need-slice-aggregate-draw-in
 slice-aggregate-draw-in c = search needs
 
--- src/lib.rt:326:13
 draw-in-requires : tie.Need-draw-in-requires
 draw-in-requires c κs = search needs
 
--- src/lib.rt:328:26
 enum-known-source : tie.Need-enum-known-source
 enum-known-source c = search needs
 
--- src/lib.rt:329:48
 part-requires : tie.Need-part-requires
 part-requires c κs = search needs
 
--- src/lib.rt:329:13
 draw-in-requires-2 : tie.Need-draw-in-requires-2
 draw-in-requires-2 c κs = search needs
 
--- src/lib.rt:331:27
 enum-known-source-2 : tie.Need-enum-known-source-2
 enum-known-source-2 c = search needs
 
--- src/lib.rt:331:40
 refused-requires : tie.Need-refused-requires
 refused-requires c κs = search needs
 
--- src/lib.rt:313:1
 same-length : tie.Need-same-length
 same-length c = search needs
 
--- src/lib.rt:313:1
 returns : tie.Need-returns
 returns c = obeys-as (c .before .before .draw-in .ensures) (λ g h. h) (λ g s p. refl) (λ g s p t. character-opened _ _ _ _ _ t _ (from-built-in _ _ _ _ (c .before .before .before .before .before .before .before .before .find-font .ensures) _ (search needs) (c .before .before .before .before .before .file .ensures)))
 
--- src/lib.rt:313:1
 same-length-2 : tie.Need-same-length-2
 same-length-2 c = search needs
 
--- src/lib.rt:313:1
 returns-2 : tie.Need-returns-2
 returns-2 c = obeys-as (c .before .before .draw-in2 .ensures) (λ g h. h) (λ g s p. refl) (λ g s p t. character-opened _ _ _ _ _ t _ (from-stored _ _ _ _ (c .before .before .before .before .before .before .before .before .find-font .ensures) _ _ _ (c .before .before .before .before .before .before .source .given .1) (c .before .before .before .part .ensures)))
 
--- src/lib.rt:313:1
 returns-3 : tie.Need-returns-3
 returns-3 c = obeys-refused _ (c .refused .ensures) (λ g s p. refl) (λ g s p t. character-shut _ _ _ _ _ t _ (from-refused _ _ _ _ (c .before .before .before .before .find-font .ensures) _ (c .before .before .source2 .given .1)))
 

@@ -2,52 +2,37 @@ use Rattle.text.proofs.Laws.{source-built-in, source-22, source-23, sou
 use borrow.Author.Needs.{needs}
 use Rattle.text.proofs.find_font.Statement.{statement}
 use Rattle.text.proofs.find_font.Tie as tie
-use Rattle.text.proofs.find_font.Reads as reads
-use Rattle.text.proofs.find_font.Lts as lts
-use Rattle.directory.proofs.find.Reads as find-reads
-use Rattle.directory.proofs.part.Reads as part-reads
-use Rattle.fonts.proofs.check_font.Reads as check-font-reads
 
--- src/lib.rt:135:9
 returns : tie.Need-returns
 returns c = source-built-in _ _ _ (search needs)
 
--- src/lib.rt:137:9
 find-requires : tie.Need-find-requires
 find-requires c κs = search needs
 
--- src/lib.rt:140:9
 enum-known-found : tie.Need-enum-known-found
 enum-known-found c = search needs
 
--- src/lib.rt:144:9
 enum-told : tie.Need-enum-told
 enum-told c = search needs
 
--- src/lib.rt:144:9
 returns-2 : tie.Need-returns-2
 returns-2 c = source-22 _ _ _ _ (c .before .before .before .if1 .left) (c .before .before .find .ensures) (search needs)
 
--- src/lib.rt:148:28
 part-requires : tie.Need-part-requires
 part-requires c κs = search needs
 
--- src/lib.rt:148:9
 check-font-requires : tie.Need-check-font-requires
 check-font-requires c κs = search needs
 
 enum-told-2 : tie.Need-enum-told-2
 enum-told-2 c = search needs
 
--- src/lib.rt:150:9
 enum-told-3 : tie.Need-enum-told-3
 enum-told-3 c = search needs
 
--- src/lib.rt:150:9
 returns-3 : tie.Need-returns-3
 returns-3 c = source-23 _ _ _ _ (c .before .before .before .before .before .before .before .before .if1 .left) (c .before .before .before .before .before .before .before .find .ensures) _ _ _ _ _ (c .before .before .before .before .before .found .given .1) (c .before .before .before .part .ensures) (c .before .before .check-font .ensures) (search needs)
 
--- src/lib.rt:131:1
 returns-4 : tie.Need-returns-4
 returns-4 c = source-stored _ _ _ _ (c .before .before .before .before .before .before .before .before .if1 .left) (c .before .before .before .before .before .before .before .find .ensures) _ _ _ _ _ (c .before .before .before .before .before .found .given .1) (c .before .before .before .part .ensures) (c .before .before .check-font .ensures) (search needs)
 
