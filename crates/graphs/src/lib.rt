@@ -4,23 +4,24 @@ use canvas::WIDTH;
 use outcome::Outcome;
 use outcome::done;
 use outcome::refused;
-use outcome::with_panel;
+use panel::bar_at;
+use panel::set_bar;
+use panel::set_strip;
+use panel::strip_at;
 use refusals::CORNERS_OUT_OF_ORDER;
 use refusals::NOT_SET_UP;
 use refusals::NUMBER_OUT_OF_RANGE;
 use refusals::OUT_OF_BOUNDS;
 use refusals::UNKNOWN_TYPE;
 use state::BARS;
-use state::BarSlot;
 use state::STRIPS;
-use state::State;
-use state::Strip;
+use state::Port;
 ghost use mathlib.Core.Path.{_≡_};
 ghost use mathlib.Core.Bool.{true};
 ghost use Prim.Native.Nat.{_<_};
 ghost use Rattle.rules.specs.Bars.{apart, setUpBar, writeBar, setUpStrip, shiftStrip};
-ghost use Rattle.outcome.specs.Contract.{SetsOn, Paints};
-ghost use Rattle.graphs.specs.Graphs.{inBoundsOf, withBarOf, withStripOf};
+ghost use Rattle.outcome.specs.Contract.{unlent, lent, untold, told, Obeys};
+ghost use Rattle.graphs.specs.Graphs.{inBoundsOf};
 
 // The types of bars are numbers below this.
 const TYPES: u8 = 4;
@@ -59,29 +60,10 @@ fn is_apart(x1: u8, y1: u8, x2: u8, y2: u8) -> bool
     y1 < y2
 }
 
-// Bar number i set up as this one.
-fn with_bar(state: State, i: usize, bar: Bar) -> State
-    requires { ⌜ i < 16 ⌝ }
-    ensures { λ r. ⌜ r ≡ withBarOf state i bar ⌝ }
-{
-    let slot = BarSlot { on: true, bar: bar };
-    let mut panel = state.panel;
-    panel.bars[i] = slot;
-    with_panel(state, panel)
-}
-
-fn with_strip(state: State, i: usize, strip: Strip) -> State
-    requires { ⌜ i < 8 ⌝ }
-    ensures { λ r. ⌜ r ≡ withStripOf state i strip ⌝ }
-{
-    let mut panel = state.panel;
-    panel.strips[i] = strip;
-    with_panel(state, panel)
-}
-
 // The value is 0, and nothing is painted.
 pub fn set_up_bar(
-    state: State,
+    panel: &mut [u8],
+    port: Port,
     height: u8,
     number: u8,
     kind: u8,
@@ -90,20 +72,19 @@ pub fn set_up_bar(
     x2: u8,
     y2: u8,
 ) -> Outcome
-    ensures { λ r. ⌜ SetsOn height (λ w. setUpBar w number kind x1 y1 x2 y2) state r ⌝ }
+    ensures { λ r. ⌜ Obeys (told height) (λ w. setUpBar w number kind x1 y1 x2 y2) port unlent unlent (lent (now (panel .entry)) (now (panel .exit))) r ⌝ }
 {
-    let i = wide(number);
-    if i >= BARS {
-        return refused(state, NUMBER_OUT_OF_RANGE);
+    if wide(number) >= BARS {
+        return refused(port, NUMBER_OUT_OF_RANGE);
     }
     if kind >= TYPES {
-        return refused(state, UNKNOWN_TYPE);
+        return refused(port, UNKNOWN_TYPE);
     }
     if !is_in_bounds(height, x1, y1, x2, y2) {
-        return refused(state, OUT_OF_BOUNDS);
+        return refused(port, OUT_OF_BOUNDS);
     }
     if !is_apart(x1, y1, x2, y2) {
-        return refused(state, CORNERS_OUT_OF_ORDER);
+        return refused(port, CORNERS_OUT_OF_ORDER);
     }
     let bar = Bar {
         kind: kind,
@@ -113,61 +94,68 @@ pub fn set_up_bar(
         y2: y2,
         value: 0,
     };
-    done(with_bar(state, i, bar))
+    set_bar(panel, number, bar);
+    done(port)
 }
 
-pub fn write_bar(framebuffer: &mut [u8], state: State, number: u8, value: u8) -> Outcome
-    ensures { λ r. ⌜ Paints (λ w. writeBar w number value) state (now (framebuffer .entry)) (now (framebuffer .exit)) r ⌝ }
+pub fn write_bar(
+    framebuffer: &mut [u8],
+    panel: &mut [u8],
+    port: Port,
+    number: u8,
+    value: u8,
+) -> Outcome
+    ensures { λ r. ⌜ Obeys untold (λ w. writeBar w number value) port (lent (now (framebuffer .entry)) (now (framebuffer .exit))) unlent (lent (now (panel .entry)) (now (panel .exit))) r ⌝ }
 {
-    let i = wide(number);
-    if i >= BARS {
-        return refused(state, NUMBER_OUT_OF_RANGE);
+    if wide(number) >= BARS {
+        return refused(port, NUMBER_OUT_OF_RANGE);
     }
-    let panel = state.panel;
-    let slot = panel.bars[i];
+    let slot = bar_at(panel, number);
     if !slot.on {
-        return refused(state, NOT_SET_UP);
+        return refused(port, NOT_SET_UP);
     }
     let bar = slot.bar;
     let written = bar_graph::write_bar(framebuffer, bar, value);
-    done(with_bar(state, i, written))
+    set_bar(panel, number, written);
+    done(port)
 }
 
-pub fn set_up_strip(state: State, height: u8, number: u8, x1: u8, y1: u8, x2: u8, y2: u8) -> Outcome
-    ensures { λ r. ⌜ SetsOn height (λ w. setUpStrip w number x1 y1 x2 y2) state r ⌝ }
+pub fn set_up_strip(
+    panel: &mut [u8],
+    port: Port,
+    height: u8,
+    number: u8,
+    x1: u8,
+    y1: u8,
+    x2: u8,
+    y2: u8,
+) -> Outcome
+    ensures { λ r. ⌜ Obeys (told height) (λ w. setUpStrip w number x1 y1 x2 y2) port unlent unlent (lent (now (panel .entry)) (now (panel .exit))) r ⌝ }
 {
-    let i = wide(number);
-    if i >= STRIPS {
-        return refused(state, NUMBER_OUT_OF_RANGE);
+    if wide(number) >= STRIPS {
+        return refused(port, NUMBER_OUT_OF_RANGE);
     }
     if !is_in_bounds(height, x1, y1, x2, y2) {
-        return refused(state, OUT_OF_BOUNDS);
+        return refused(port, OUT_OF_BOUNDS);
     }
     if !is_apart(x1, y1, x2, y2) {
-        return refused(state, CORNERS_OUT_OF_ORDER);
+        return refused(port, CORNERS_OUT_OF_ORDER);
     }
-    let strip = Strip {
-        on: true,
-        x1: x1,
-        y1: y1,
-        x2: x2,
-        y2: y2,
-    };
-    done(with_strip(state, i, strip))
+    set_strip(panel, number, x1, y1, x2, y2);
+    done(port)
 }
 
 // The low seven bits are the number, the highest one the way.
-pub fn shift_strip(framebuffer: &mut [u8], state: State, byte: u8) -> Outcome
-    ensures { λ r. ⌜ Paints (λ w. shiftStrip w byte) state (now (framebuffer .entry)) (now (framebuffer .exit)) r ⌝ }
+pub fn shift_strip(framebuffer: &mut [u8], panel: &[u8], port: Port, byte: u8) -> Outcome
+    ensures { λ r. ⌜ Obeys untold (λ w. shiftStrip w byte) port (lent (now (framebuffer .entry)) (now (framebuffer .exit))) unlent (lent (now (panel .entry)) (now (panel .entry))) r ⌝ }
 {
-    let i = wide(byte % RIGHT);
-    if i >= STRIPS {
-        return refused(state, NUMBER_OUT_OF_RANGE);
+    let number = byte % RIGHT;
+    if wide(number) >= STRIPS {
+        return refused(port, NUMBER_OUT_OF_RANGE);
     }
-    let panel = state.panel;
-    let strip = panel.strips[i];
+    let strip = strip_at(panel, number);
     if !strip.on {
-        return refused(state, NOT_SET_UP);
+        return refused(port, NOT_SET_UP);
     }
     strip_chart::shift_strip(
         framebuffer,
@@ -177,5 +165,5 @@ pub fn shift_strip(framebuffer: &mut [u8], state: State, byte: u8) -> Outcome
         strip.y2,
         byte >= RIGHT,
     );
-    done(state)
+    done(port)
 }

@@ -6,6 +6,7 @@ use mathlib.Core.List.{[], _∷_}
 use native.Mathlib.Omega.{arith}
 use Prim.Native.Nat.{ℕ, _+_, _<_, _≤_}
 use borrow.Author.Tests.{le-leb, lt-leb}
+use Rattle.state.specs.declared.Serial.{Serial}
 use Rattle.state.specs.State.{withFlow, withContrast, withBacklight, withSerial}
 use Rattle.rules.specs.World.{World, port, panel, withPort, withPanel, done, quietly, refused}
 use Rattle.rules.specs.Settings.{flow, flowOn, flowOff, setContrast, backlight, backlightOn, backlightOff, serial, setSerial}
@@ -34,10 +35,10 @@ pub off-is : (w : World) → backlightOff w ≡ quietly (withPanel w (withBackli
 unfolding backlightOff
 off-is w = refl
 
-pub serial-kept : (w : World) (a b : ℕ) → panel w .serial .on ≡ true → setSerial w a b ≡ done w (panel w .serial .a ∷ panel w .serial .b ∷ [])
+pub serial-kept : (w : World) (a b : ℕ) (n : Serial) → n ≡ panel w .serial → n .on ≡ true → setSerial w a b ≡ done w (n .a ∷ n .b ∷ [])
 unfolding setSerial
-serial-kept w a b e = rw e
+serial-kept w a b n d e = rw (← d, e)
 
-pub serial-stored : (w : World) (a b : ℕ) → panel w .serial .on ≡ false → setSerial w a b ≡ done (withPanel w (withSerial (panel w) (serial a b))) (a ∷ b ∷ [])
+pub serial-stored : (w : World) (a b : ℕ) (n : Serial) → n ≡ panel w .serial → n .on ≡ false → setSerial w a b ≡ done (withPanel w (withSerial (panel w) (serial a b))) (a ∷ b ∷ [])
 unfolding setSerial
-serial-stored w a b e = rw e
+serial-stored w a b n d e = rw (← d, e)

@@ -4,18 +4,15 @@ use outcome::done;
 use outcome::refused;
 use outcome::sending;
 use outcome::two_bytes;
-use outcome::with_panel;
-use outcome::with_port;
 use queue::Flow;
 use queue::SIZE;
 use refusals::BAD_WATERMARKS;
-use state::Backlight;
-use state::Serial;
-use state::State;
+use state::Port;
 ghost use mathlib.Core.Path.{_≡_};
 ghost use Prim.Native.Nat.{_<_};
+ghost use Rattle.state.specs.State.{withFlow};
 ghost use Rattle.rules.specs.Settings.{flowOn, flowOff, setContrast, backlightOn, backlightOff, setSerial};
-ghost use Rattle.outcome.specs.Contract.{Sets};
+ghost use Rattle.outcome.specs.Contract.{unlent, lent, untold, told, Obeys};
 
 fn wide(x: u8) -> usize
     ensures { λ r. ⌜ (r ≡ x) × (r < 256) ⌝ }
@@ -23,78 +20,67 @@ fn wide(x: u8) -> usize
     x as usize
 }
 
-pub fn flow_on(state: State, full: u8, empty: u8) -> Outcome
-    ensures { λ r. ⌜ Sets (λ w. flowOn w full empty) state r ⌝ }
+fn with_flow(port: Port, flow: Flow) -> Port
+    ensures { λ r. ⌜ r ≡ withFlow port flow ⌝ }
+{
+    let mut next = port;
+    next.flow = flow;
+    next
+}
+
+pub fn flow_on(port: Port, full: u8, empty: u8) -> Outcome
+    ensures { λ r. ⌜ Obeys untold (λ w. flowOn w full empty) port unlent unlent unlent r ⌝ }
 {
     if wide(full) + wide(empty) >= SIZE {
-        return refused(state, BAD_WATERMARKS);
+        return refused(port, BAD_WATERMARKS);
     }
     let flow = Flow {
         on: true,
         full: full,
         empty: empty,
     };
-    let mut port = state.port;
-    port.flow = flow;
-    done(with_port(state, port))
+    done(with_flow(port, flow))
 }
 
 // The thresholds stay.
-pub fn flow_off(state: State) -> Outcome
-    ensures { λ r. ⌜ Sets flowOff state r ⌝ }
+pub fn flow_off(port: Port) -> Outcome
+    ensures { λ r. ⌜ Obeys untold flowOff port unlent unlent unlent r ⌝ }
 {
-    let mut flow = state.port.flow;
+    let mut flow = port.flow;
     flow.on = false;
-    let mut port = state.port;
-    port.flow = flow;
-    done(with_port(state, port))
+    done(with_flow(port, flow))
 }
 
-pub fn set_contrast(state: State, contrast: u8) -> Outcome
-    ensures { λ r. ⌜ Sets (λ w. setContrast w contrast) state r ⌝ }
+pub fn set_contrast(panel: &mut [u8], port: Port, contrast: u8) -> Outcome
+    ensures { λ r. ⌜ Obeys untold (λ w. setContrast w contrast) port unlent unlent (lent (now (panel .entry)) (now (panel .exit))) r ⌝ }
 {
-    let mut panel = state.panel;
-    panel.contrast = contrast;
-    done(with_panel(state, panel))
+    panel::set_contrast(panel, contrast);
+    done(port)
 }
 
-pub fn backlight_on(state: State, minutes: u8) -> Outcome
-    ensures { λ r. ⌜ Sets (λ w. backlightOn w minutes) state r ⌝ }
+pub fn backlight_on(panel: &mut [u8], port: Port, minutes: u8) -> Outcome
+    ensures { λ r. ⌜ Obeys untold (λ w. backlightOn w minutes) port unlent unlent (lent (now (panel .entry)) (now (panel .exit))) r ⌝ }
 {
-    let backlight = Backlight {
-        on: true,
-        minutes: minutes,
-    };
-    let mut panel = state.panel;
-    panel.backlight = backlight;
-    done(with_panel(state, panel))
+    panel::set_backlight(panel, minutes);
+    done(port)
 }
 
 // The minutes stay.
-pub fn backlight_off(state: State) -> Outcome
-    ensures { λ r. ⌜ Sets backlightOff state r ⌝ }
+pub fn backlight_off(panel: &mut [u8], port: Port) -> Outcome
+    ensures { λ r. ⌜ Obeys untold backlightOff port unlent unlent (lent (now (panel .entry)) (now (panel .exit))) r ⌝ }
 {
-    let mut backlight = state.panel.backlight;
-    backlight.on = false;
-    let mut panel = state.panel;
-    panel.backlight = backlight;
-    done(with_panel(state, panel))
+    panel::clear_backlight(panel);
+    done(port)
 }
 
 // Stored the first time; always answered by what is stored.
-pub fn set_serial(state: State, a: u8, b: u8) -> Outcome
-    ensures { λ r. ⌜ Sets (λ w. setSerial w a b) state r ⌝ }
+pub fn set_serial(panel: &mut [u8], port: Port, a: u8, b: u8) -> Outcome
+    ensures { λ r. ⌜ Obeys untold (λ w. setSerial w a b) port unlent unlent (lent (now (panel .entry)) (now (panel .exit))) r ⌝ }
 {
-    let stored = state.panel.serial;
+    let stored = panel::serial_in(panel);
     if stored.on {
-        return sending(state, two_bytes(stored.a, stored.b));
+        return sending(port, two_bytes(stored.a, stored.b));
     }
-    let serial = Serial {
-        on: true,
-        a: a,
-        b: b,
-    };
-    let mut panel = state.panel;
-    panel.serial = serial;
-    sending(with_panel(state, panel), two_bytes(a, b))
+    panel::set_serial(panel, a, b);
+    sending(port, two_bytes(a, b))
 }

@@ -1,17 +1,20 @@
 use Rattle.settings.proofs.Laws.{on-is}
-use Rattle.outcome.proofs.Laws.{sets-done, done-with}
+use Rattle.outcome.proofs.Laws.{obeys-set}
 use borrow.Author.Needs.{needs}
 use Rattle.settings.proofs.backlight_on.Statement.{statement}
 use Rattle.settings.proofs.backlight_on.Tie as tie
 
-with-panel-requires : tie.Need-with-panel-requires
-with-panel-requires c κs = search needs
+set-backlight-requires : tie.Need-set-backlight-requires
+set-backlight-requires c κs = search needs
 
 done-requires : tie.Need-done-requires
 done-requires c κs = search needs
 
+same-length : tie.Need-same-length
+same-length c = search needs
+
 returns : tie.Need-returns
-returns c = sets-done _ (done-with (c .before .with-panel .ensures) (c .done .ensures)) (λ g s. on-is _ _)
+returns c = obeys-set _ _ (c .done .ensures) (λ p. c .before .before .before .set-backlight .ensures) (λ g s p t. on-is _ _)
 
 pub backlight-on-spec : {M : Type 1} → statement M
-backlight-on-spec = tie.close (tie.spec with-panel-requires done-requires returns)
+backlight-on-spec = tie.close (tie.spec set-backlight-requires done-requires same-length returns)

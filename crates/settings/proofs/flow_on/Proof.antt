@@ -1,5 +1,6 @@
+use mathlib.Core.Path.{refl}
 use Rattle.settings.proofs.Laws.{flow-refused, flow-on-is}
-use Rattle.outcome.proofs.Laws.{sets-refused, sets-done, done-with}
+use Rattle.outcome.proofs.Laws.{obeys-refused, obeys-done, done-with}
 use borrow.Author.Needs.{needs}
 use Rattle.settings.proofs.flow_on.Statement.{statement}
 use Rattle.settings.proofs.flow_on.Tie as tie
@@ -17,16 +18,16 @@ refused-requires : tie.Need-refused-requires
 refused-requires c κs = search needs
 
 returns : tie.Need-returns
-returns c = sets-refused 27 (c .refused .ensures) (λ g s. flow-refused _ _ _ _ _ (c .before .before .before .wide .ensures .0) (c .before .before .wide2 .ensures .0) (search needs))
+returns c = obeys-refused 27 (c .refused .ensures) (λ g s p. refl) (λ g s p t. flow-refused _ _ _ _ _ (c .before .before .before .wide .ensures .0) (c .before .before .wide2 .ensures .0) (search needs))
 
-with-port-requires : tie.Need-with-port-requires
-with-port-requires c κs = search needs
+with-flow-requires : tie.Need-with-flow-requires
+with-flow-requires c κs = search needs
 
 done-requires : tie.Need-done-requires
 done-requires c κs = search needs
 
 returns-2 : tie.Need-returns-2
-returns-2 c = sets-done _ (done-with (c .before .with-port .ensures) (c .done .ensures)) (λ g s. flow-on-is _ _ _ _ _ (c .before .before .before .before .before .wide .ensures .0) (c .before .before .before .before .wide2 .ensures .0) (search needs))
+returns-2 c = obeys-done _ (done-with (c .before .with-flow .ensures) (c .done .ensures)) (λ p. refl) (λ g s p t. flow-on-is _ _ _ _ _ (c .before .before .before .before .wide .ensures .0) (c .before .before .before .wide2 .ensures .0) (search needs))
 
 pub flow-on-spec : {M : Type 1} → statement M
 flow-on-spec =
@@ -37,6 +38,6 @@ flow-on-spec =
     add-if1
     refused-requires
     returns
-    with-port-requires
+    with-flow-requires
     done-requires
     returns-2)

@@ -1,17 +1,20 @@
 use Rattle.settings.proofs.Laws.{contrast-is}
-use Rattle.outcome.proofs.Laws.{sets-done, done-with}
+use Rattle.outcome.proofs.Laws.{obeys-set}
 use borrow.Author.Needs.{needs}
 use Rattle.settings.proofs.set_contrast.Statement.{statement}
 use Rattle.settings.proofs.set_contrast.Tie as tie
 
-with-panel-requires : tie.Need-with-panel-requires
-with-panel-requires c κs = search needs
+set-contrast-requires : tie.Need-set-contrast-requires
+set-contrast-requires c κs = search needs
 
 done-requires : tie.Need-done-requires
 done-requires c κs = search needs
 
+same-length : tie.Need-same-length
+same-length c = search needs
+
 returns : tie.Need-returns
-returns c = sets-done _ (done-with (c .before .with-panel .ensures) (c .done .ensures)) (λ g s. contrast-is _ _)
+returns c = obeys-set _ _ (c .done .ensures) (λ p. c .before .before .before .set-contrast .ensures) (λ g s p t. contrast-is _ _)
 
 pub set-contrast-spec : {M : Type 1} → statement M
-set-contrast-spec = tie.close (tie.spec with-panel-requires done-requires returns)
+set-contrast-spec = tie.close (tie.spec set-contrast-requires done-requires same-length returns)

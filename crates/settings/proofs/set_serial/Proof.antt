@@ -1,9 +1,12 @@
-use Rattle.settings.proofs.Laws.{serial-kept, serial-stored}
-use Rattle.outcome.proofs.Laws.{sets-two, sending-with}
 use mathlib.Core.Path.{refl}
+use Rattle.settings.proofs.Laws.{serial-kept, serial-stored}
+use Rattle.outcome.proofs.Laws.{obeys-two, obeys-set-two, sending-with}
 use borrow.Author.Needs.{needs}
 use Rattle.settings.proofs.set_serial.Statement.{statement}
 use Rattle.settings.proofs.set_serial.Tie as tie
+
+serial-in-requires : tie.Need-serial-in-requires
+serial-in-requires c κs = search needs
 
 two-bytes-requires : tie.Need-two-bytes-requires
 two-bytes-requires c κs = search needs
@@ -11,11 +14,14 @@ two-bytes-requires c κs = search needs
 sending-requires : tie.Need-sending-requires
 sending-requires c κs = search needs
 
-returns : tie.Need-returns
-returns c = sets-two _ _ _ (sending-with refl (c .before .two-bytes .ensures) (c .sending .ensures)) (λ g s. serial-kept _ _ _ (search needs))
+same-length : tie.Need-same-length
+same-length c = search needs
 
-with-panel-requires : tie.Need-with-panel-requires
-with-panel-requires c κs = search needs
+returns : tie.Need-returns
+returns c = obeys-two _ _ _ (sending-with refl (c .before .two-bytes .ensures) (c .sending .ensures)) (λ p. refl) (λ g s p t. serial-kept _ _ _ _ (c .before .before .before .serial-in .ensures) (search needs))
+
+set-serial-requires : tie.Need-set-serial-requires
+set-serial-requires c κs = search needs
 
 two-bytes-requires-2 : tie.Need-two-bytes-requires-2
 two-bytes-requires-2 c κs = search needs
@@ -23,17 +29,23 @@ two-bytes-requires-2 c κs = search needs
 sending-requires-2 : tie.Need-sending-requires-2
 sending-requires-2 c κs = search needs
 
+same-length-2 : tie.Need-same-length-2
+same-length-2 c = search needs
+
 returns-2 : tie.Need-returns-2
-returns-2 c = sets-two _ _ _ (sending-with (c .before .before .with-panel .ensures) (c .before .two-bytes2 .ensures) (c .sending2 .ensures)) (λ g s. serial-stored _ _ _ (search needs))
+returns-2 c = obeys-set-two _ _ _ _ (sending-with refl (c .before .two-bytes2 .ensures) (c .sending2 .ensures)) (λ p. c .before .before .before .before .set-serial .ensures) (λ g s p t. serial-stored _ _ _ _ (c .before .before .before .before .before .before .before .serial-in .ensures) (search needs))
 
 pub set-serial-spec : {M : Type 1} → statement M
 set-serial-spec =
     tie.close
     (tie.spec
+    serial-in-requires
     two-bytes-requires
     sending-requires
+    same-length
     returns
-    with-panel-requires
+    set-serial-requires
     two-bytes-requires-2
     sending-requires-2
+    same-length-2
     returns-2)
