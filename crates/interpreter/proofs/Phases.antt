@@ -18,32 +18,30 @@ use Rattle.state.specs.declared.Command.the-variants.{Unknown, Clear, Home, Set
 use Rattle.state.specs.declared.Phase.{Phase}
 use Rattle.state.specs.declared.Phase.the-variants.{Idle, Prefix, Gathering, Inline, Upload}
 use Rattle.state.specs.declared.State.{State}
-use Rattle.state.specs.State.{noArgs}
+use Rattle.state.specs.declared.Port.{Port}
+use Rattle.state.specs.declared.Panel.{Panel}
+use Rattle.state.specs.State.{state, withPhase, noArgs}
 use Rattle.state.specs.Commands.{commandOf, argumentsOf}
-use Rattle.rules.specs.World.{World, world, port, done, quietly, refused, Outcome as Ruled}
+use Rattle.record.specs.Reading.{panelOf}
+use Rattle.rules.specs.World.{World, world, port, withPort, done, quietly, refused, Outcome as Ruled}
 use Rattle.rules.specs.Text.{character}
-use Rattle.rules.specs.Pictures.{inlineData}
+use Rattle.rules.specs.Pictures.{inPhase, inlineData}
 use Rattle.rules.specs.Files.{uploadData}
 use Rattle.rules.specs.Step.{obey, outside, code, argument, alone, byPhase, outcome, after, refuse}
 use Rattle.outcome.specs.declared.Outcome.{Outcome}
 use Rattle.outcome.specs.Outcome.{inPhaseOf, sentBy}
-use Rattle.outcome.specs.Contract.{Came, AltersOn, ShowsOn}
+use Rattle.outcome.specs.Contract.{Loan, found, left, Told, held, heldBy, Came, Obeys}
 use Rattle.storage.proofs.Laws.{stored-not, stored-yes}
-use Rattle.interpreter.specs.Gathering.{gatheringOf}
 
 -- ---- outside a command
 
-pub alone-prefix : (g s : List ℕ) (st : State) (b : ℕ) → b ≡ 254 → alone (world g s st) b ≡ quietly (world g s (inPhaseOf st Prefix))
+pub alone-prefix : (g s : List ℕ) (st : State) (b : ℕ) → b ≡ 254 → alone (world g s st) b ≡ quietly (inPhase (world g s st) Prefix)
 unfolding alone
 alone-prefix g s st b e = rw (eq-eqb b 254 e)
 
-alone-character : (w : World) (b : ℕ) → (b ≡ 254 → ⊥) → alone w b ≡ character w b
+pub alone-character : (w : World) (b : ℕ) → (b ≡ 254 → ⊥) → alone w b ≡ character w b
 unfolding alone
 alone-character w b h = rw (ne-eqb b 254 h)
-
-pub character-shown : {h : ℕ} {g g' s : List ℕ} {st : State} {r : Outcome} (b : ℕ) → (b ≡ 254 → ⊥) → ShowsOn h (λ w. character w b) st g g' s r
-    → ShowsOn h (λ w. alone w b) st g g' s r
-character-shown b n p = record { came = λ t. rw (alone-character _ b n) (p .came t) }
 
 -- ---- a command under way: its world is outside it, and a refusal ends it either way
 
@@ -52,18 +50,18 @@ unfolding after refuse
 after-outside w (done v l) = refl
 after-outside w (refused n l) = refl
 
-came-outside : (w : World) (o : Ruled) (v : World) (l : List ℕ) → Came (outside w) o v l → Came w o v l
-came-outside w o v l p = record { next = p .next ∙ after-outside w o; sends = p .sends }
-
 -- a command obeyed there is what the byte comes to
-obeyed-there : {h : ℕ} (of : World → Ruled) (c : Command) (a g g' s s' : List ℕ) (st out : State) (r : Outcome) → out ≡ inPhaseOf st Idle
-    → of (world g s st) ≡ obey c a (outside (world g s st)) → AltersOn h (obey c a) out g g' s s' r → AltersOn h of st g g' s s' r
-obeyed-there of c a g g' s s' st out r d e p =
+obeyed-there : {t : Told} {G S P : Loan} {r : Outcome} (of : World → Ruled) (c : Command) (a : List ℕ) (pt out : Port) → out ≡ inPhaseOf pt Idle
+    → ((g s : List ℕ) (q : Panel) → of (world g s (state pt q)) ≡ obey c a (outside (world g s (state pt q)))) → Obeys t (obey c a) out G S P r → Obeys t of pt G S P r
+obeyed-there {t = t} {G = G} {S = S} {P = P} {r = r} of c a pt out d e o =
     record {
-      came = λ t.
-          let q : Came (outside (world g s st)) (obey c a (outside (world g s st))) (world g' s' (r .state)) (sentBy (r .reply)) =
-          subst (λ (x : State). Came (world g s x) (obey c a (world g s x)) (world g' s' (r .state)) (sentBy (r .reply))) d (p .came t) in
-          rw e (came-outside (world g s st) _ _ _ q);
+      came = λ g s p h.
+          let w = world (found G g) (found S s) (state pt (panelOf (found P p))) in
+          let q : Came (held (found G g) (found S s) (found P p) (inPhaseOf pt Idle)) (obey c a (outside w)) (held (left G g) (left S s) (left P p) (r .port)) (sentBy (r .reply)) =
+          subst (λ (x : Port). Came (held (found G g) (found S s) (found P p) x) (obey c a (world (found G g) (found S s) (state x (panelOf (found P p)))))
+          (held (left G g) (left S s) (left P p) (r .port)) (sentBy (r .reply))) d (o .came g s p h) in
+          rw (e (found G g) (found S s) (panelOf (found P p)))
+          (record { next = q .next ∙ ap (heldBy (found P p)) (after-outside w (obey c a (outside w))); sends = q .sends });
     }
 
 obey-nothing : (c : Command) (w : World) → obey c noArgs w ≡ obey c [] w
@@ -102,19 +100,19 @@ obey-nothing BacklightOn w = refl
 obey-nothing BacklightOff w = refl
 obey-nothing SetSerial w = refl
 
-module _ (g s : List ℕ) (st : State) (b : ℕ) (c : Command) (n : ℕ) (named : c ≡ commandOf b) (counted : n ≡ argumentsOf c) where
-  pub code-gathers : (n ≡ 0 → ⊥) → code (world g s st) b ≡ quietly (world g s (inPhaseOf st (Gathering b 0)))
+module _ (b : ℕ) (c : Command) (n : ℕ) (named : c ≡ commandOf b) (counted : n ≡ argumentsOf c) where
+  pub code-gathers : (w : World) → (n ≡ 0 → ⊥) → code w b ≡ quietly (inPhase w (Gathering b 0))
   unfolding code
-  code-gathers h = rw (← named, ← counted, ne-eqb n 0 h)
+  code-gathers w h = rw (← named, ← counted, ne-eqb n 0 h)
 
-  obeyed : n ≡ 0 → code (world g s st) b ≡ obey c [] (outside (world g s st))
+  obeyed : (w : World) → n ≡ 0 → code w b ≡ obey c [] (outside w)
   unfolding code
-  obeyed e = rw (← named, ← counted, eq-eqb n 0 e)
+  obeyed w e = rw (← named, ← counted, eq-eqb n 0 e)
 
-  pub code-obeyed : {h : ℕ} (g' s' : List ℕ) (out : State) (r : Outcome) → n ≡ 0 → out ≡ inPhaseOf st Idle → AltersOn h (obey c noArgs) out g g' s s' r
-      → AltersOn h (λ w. code w b) st g g' s s' r
-  code-obeyed g' s' out r e d p =
-      obeyed-there (λ w. code w b) c noArgs g g' s s' st out r d (obeyed e ∙ sym (obey-nothing c (outside (world g s st)))) p
+  pub code-obeyed : {t : Told} {G S P : Loan} {r : Outcome} {pt : Port} (out : Port) → n ≡ 0 → out ≡ inPhaseOf pt Idle → Obeys t (obey c noArgs) out G S P r
+      → Obeys t (λ w. code w b) pt G S P r
+  code-obeyed {pt = pt} out e d o =
+      obeyed-there (λ w. code w b) c noArgs pt out d (λ g s q. obeyed (world g s (state pt q)) e ∙ sym (obey-nothing c (outside (world g s (state pt q))))) o
 
 -- ---- arguments
 
@@ -136,7 +134,7 @@ module _ (g s : List ℕ) (st : State) (b : ℕ) (f : Found) (sought : f ≡ fin
   bitmap-22 e = rw (← stored-not s 2 b f sought e)
 
   pub bitmap-found : (p a z : ℕ) (args : List ℕ) → f ≡ At p a z → args ≡ set (st .port .args) 0 b
-      → argument (world g s st) 98 0 b ≡ quietly (world g s (gatheringOf st 98 1 args))
+      → argument (world g s st) 98 0 b ≡ quietly (withPort (world g s st) (withPhase (st .port) (Gathering 98 1) args))
   unfolding argument commandOf
   bitmap-found p a z args e k = rw (← stored-yes s 2 b p a z f sought e, k)
 
@@ -146,19 +144,20 @@ pub bitmap-is : (w : World) (k i b : ℕ) (t : Bool) → t ≡ (eqb k 98 && eqb 
 bitmap-is w k i b t e h =
     let p = and-both (eqb k 98) (eqb i 0) (sym e ∙ h) in rw (eqb-true k 98 (p .0), eqb-true i 0 (p .1))
 
-module _ (g s : List ℕ) (st : State) (k i b : ℕ) (t : Bool) (c : Command) (n : ℕ) (a : List ℕ) (tested : t ≡ (eqb k 98 && eqb i 0)) (other : t ≡ false)
-    (named : c ≡ commandOf k) (counted : n ≡ argumentsOf c) (kept : a ≡ set (st .port .args) i b) where
-  pub argument-kept : i + 1 < n → argument (world g s st) k i b ≡ quietly (world g s (gatheringOf st k (i + 1) a))
+module _ (pt : Port) (k i b : ℕ) (t : Bool) (c : Command) (n : ℕ) (a : List ℕ) (tested : t ≡ (eqb k 98 && eqb i 0)) (other : t ≡ false)
+    (named : c ≡ commandOf k) (counted : n ≡ argumentsOf c) (kept : a ≡ set (pt .args) i b) where
+  pub argument-kept : (g s : List ℕ) (q : Panel) → i + 1 < n
+      → argument (world g s (state pt q)) k i b ≡ quietly (world g s (state (withPhase pt (Gathering k (i + 1)) a) q))
   unfolding argument
-  argument-kept h = rw (← tested, other, ← named, ← counted, lt-ltb (i + 1) n h, kept)
+  argument-kept g s q h = rw (← tested, other, ← named, ← counted, lt-ltb (i + 1) n h, kept)
 
-  last : n ≤ i + 1 → argument (world g s st) k i b ≡ obey c a (outside (world g s st))
+  last : (g s : List ℕ) (q : Panel) → n ≤ i + 1 → argument (world g s (state pt q)) k i b ≡ obey c a (outside (world g s (state pt q)))
   unfolding argument
-  last h = rw (← tested, other, ← named, ← counted, le-ltb (i + 1) n h, kept)
+  last g s q h = rw (← tested, other, ← named, ← counted, le-ltb (i + 1) n h, kept)
 
-  pub argument-obeyed : {h : ℕ} (g' s' : List ℕ) (out : State) (r : Outcome) → n ≤ i + 1 → out ≡ inPhaseOf st Idle → AltersOn h (obey c a) out g g' s s' r
-      → AltersOn h (λ w. argument w k i b) st g g' s s' r
-  argument-obeyed g' s' out r l d p = obeyed-there (λ w. argument w k i b) c a g g' s s' st out r d (last l) p
+  pub argument-obeyed : {h : Told} {G S P : Loan} {r : Outcome} (out : Port) → n ≤ i + 1 → out ≡ inPhaseOf pt Idle → Obeys h (obey c a) out G S P r
+      → Obeys h (λ w. argument w k i b) pt G S P r
+  argument-obeyed out l d o = obeyed-there (λ w. argument w k i b) c a pt out d (λ g s q. last g s q l) o
 
 -- ---- the phase
 

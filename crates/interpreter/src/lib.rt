@@ -7,14 +7,12 @@ use outcome::Outcome;
 use outcome::done;
 use outcome::in_phase;
 use outcome::refused;
-use outcome::with_port;
 use refusals::NO_SUCH_FILE;
 use refusals::UNKNOWN_COMMAND;
 use state::ARGUMENTS;
 use state::Command;
 use state::Phase;
 use state::Port;
-use state::State;
 use state::arguments_of;
 use state::command_of;
 ghost use mathlib.Core.Path.{_≡_};
@@ -22,9 +20,10 @@ ghost use mathlib.Core.Bool.{_&&_};
 ghost use Prim.Native.Nat.{_+_, _*_};
 ghost use lib.Dec.{eqb};
 ghost use lib.ListN.{set};
+ghost use Rattle.state.specs.declared.Phase.the-variants.{Gathering};
+ghost use Rattle.state.specs.State.{withPhase};
 ghost use Rattle.rules.specs.Step.{obey, code, argument, alone, outcome};
-ghost use Rattle.outcome.specs.Contract.{Stores, AltersOn, ShowsOn};
-ghost use Rattle.interpreter.specs.Gathering.{gatheringOf};
+ghost use Rattle.outcome.specs.Contract.{unlent, lent, untold, told, Obeys};
 
 // The byte that begins a command.
 const PREFIX: u8 = 254;
@@ -45,56 +44,66 @@ fn obey(
     a: [u8; ARGUMENTS],
     framebuffer: &mut [u8],
     store: &mut [u8],
-    state: State,
+    panel: &mut [u8],
+    port: Port,
     height: u8,
 ) -> Outcome
-    ensures { λ r. ⌜ AltersOn height (obey command a) state (now (framebuffer .entry)) (now (framebuffer .exit)) (now (store .entry)) (now (store .exit)) r ⌝ }
+    ensures { λ r. ⌜ Obeys (told height) (obey command a) port (lent (now (framebuffer .entry)) (now (framebuffer .exit))) (lent (now (store .entry)) (now (store .exit))) (lent (now (panel .entry)) (now (panel .exit))) r ⌝ }
 {
     match command {
-        Command::Unknown => refused(state, UNKNOWN_COMMAND),
-        Command::Clear => drawing::clear(framebuffer, state),
-        Command::Home => text::home(state),
-        Command::SetPoint => text::set_point(state, a[0], a[1]),
-        Command::SetPlace => text::set_place(store, state, height, a[0], a[1]),
-        Command::WrapOn => text::set_wrap(state, true),
-        Command::WrapOff => text::set_wrap(state, false),
-        Command::ScrollOn => text::set_scroll(state, true),
-        Command::ScrollOff => text::set_scroll(state, false),
-        Command::ChooseFont => text::choose_font(store, state, height, a[0]),
-        Command::SetMetrics => text::set_metrics(state, a[0], a[1], a[2], a[3], a[4]),
-        Command::SetColour => drawing::set_colour(state, a[0]),
-        Command::DrawPixel => drawing::draw_pixel(framebuffer, state, a[0], a[1]),
-        Command::DrawLine => drawing::draw_line(framebuffer, state, a[0], a[1], a[2], a[3]),
+        Command::Unknown => refused(port, UNKNOWN_COMMAND),
+        Command::Clear => drawing::clear(framebuffer, port),
+        Command::Home => text::home(port),
+        Command::SetPoint => text::set_point(port, a[0], a[1]),
+        Command::SetPlace => text::set_place(store, port, height, a[0], a[1]),
+        Command::WrapOn => text::set_wrap(port, true),
+        Command::WrapOff => text::set_wrap(port, false),
+        Command::ScrollOn => text::set_scroll(port, true),
+        Command::ScrollOff => text::set_scroll(port, false),
+        Command::ChooseFont => text::choose_font(store, port, height, a[0]),
+        Command::SetMetrics => text::set_metrics(port, a[0], a[1], a[2], a[3], a[4]),
+        Command::SetColour => drawing::set_colour(port, a[0]),
+        Command::DrawPixel => drawing::draw_pixel(framebuffer, port, a[0], a[1]),
+        Command::DrawLine => drawing::draw_line(framebuffer, port, a[0], a[1], a[2], a[3]),
         Command::ContinueLine => {
-            let from = state.port.drawing;
-            drawing::draw_line(framebuffer, state, from.x, from.y, a[0], a[1])
+            let from = port.drawing;
+            drawing::draw_line(framebuffer, port, from.x, from.y, a[0], a[1])
         }
-        Command::DrawFrame => drawing::draw_frame(framebuffer, state, a[0], a[1], a[2], a[3], a[4]),
+        Command::DrawFrame => drawing::draw_frame(framebuffer, port, a[0], a[1], a[2], a[3], a[4]),
         Command::FillRectangle => {
-            drawing::fill_rectangle(framebuffer, state, a[0], a[1], a[2], a[3], a[4])
+            drawing::fill_rectangle(framebuffer, port, a[0], a[1], a[2], a[3], a[4])
         }
         Command::SetUpBar => {
-            graphs::set_up_bar(state, height, a[0], a[1], a[2], a[3], a[4], a[5])
+            graphs::set_up_bar(panel, port, height, a[0], a[1], a[2], a[3], a[4], a[5])
         }
-        Command::WriteBar => graphs::write_bar(framebuffer, state, a[0], a[1]),
-        Command::SetUpStrip => graphs::set_up_strip(state, height, a[0], a[1], a[2], a[3], a[4]),
-        Command::ShiftStrip => graphs::shift_strip(framebuffer, state, a[0]),
-        Command::ShowBitmap => pictures::show_bitmap(framebuffer, store, state, a[0], a[1], a[2]),
-        Command::DrawInline => pictures::begin_inline(state, a[0], a[1], a[2], a[3]),
+        Command::WriteBar => graphs::write_bar(framebuffer, panel, port, a[0], a[1]),
+        Command::SetUpStrip => graphs::set_up_strip(
+            panel,
+            port,
+            height,
+            a[0],
+            a[1],
+            a[2],
+            a[3],
+            a[4],
+        ),
+        Command::ShiftStrip => graphs::shift_strip(framebuffer, panel, port, a[0]),
+        Command::ShowBitmap => pictures::show_bitmap(framebuffer, store, port, a[0], a[1], a[2]),
+        Command::DrawInline => pictures::begin_inline(port, a[0], a[1], a[2], a[3]),
         Command::UploadFont => {
-            storage::begin_upload(store, state, FONT, a[0], size_of(a[1], a[2]))
+            storage::begin_upload(store, port, FONT, a[0], size_of(a[1], a[2]))
         }
         Command::UploadBitmap => {
-            storage::begin_upload(store, state, BITMAP, a[0], size_of(a[1], a[2]))
+            storage::begin_upload(store, port, BITMAP, a[0], size_of(a[1], a[2]))
         }
-        Command::DeleteFile => storage::delete_file(store, state, a[0], a[1]),
-        Command::Purge => storage::purge(store, state, height, a[0], a[1]),
-        Command::FlowOn => settings::flow_on(state, a[0], a[1]),
-        Command::FlowOff => settings::flow_off(state),
-        Command::SetContrast => settings::set_contrast(state, a[0]),
-        Command::BacklightOn => settings::backlight_on(state, a[0]),
-        Command::BacklightOff => settings::backlight_off(state),
-        Command::SetSerial => settings::set_serial(state, a[0], a[1]),
+        Command::DeleteFile => storage::delete_file(store, port, a[0], a[1]),
+        Command::Purge => storage::purge(store, port, height, a[0], a[1]),
+        Command::FlowOn => settings::flow_on(port, a[0], a[1]),
+        Command::FlowOff => settings::flow_off(port),
+        Command::SetContrast => settings::set_contrast(panel, port, a[0]),
+        Command::BacklightOn => settings::backlight_on(panel, port, a[0]),
+        Command::BacklightOff => settings::backlight_off(panel, port),
+        Command::SetSerial => settings::set_serial(panel, port, a[0], a[1]),
     }
 }
 
@@ -102,25 +111,34 @@ fn obey(
 fn take_code(
     framebuffer: &mut [u8],
     store: &mut [u8],
-    state: State,
+    panel: &mut [u8],
+    port: Port,
     height: u8,
     byte: u8,
 ) -> Outcome
-    ensures { λ r. ⌜ AltersOn height (λ w. code w byte) state (now (framebuffer .entry)) (now (framebuffer .exit)) (now (store .entry)) (now (store .exit)) r ⌝ }
+    ensures { λ r. ⌜ Obeys (told height) (λ w. code w byte) port (lent (now (framebuffer .entry)) (now (framebuffer .exit))) (lent (now (store .entry)) (now (store .exit))) (lent (now (panel .entry)) (now (panel .exit))) r ⌝ }
 {
     let command = command_of(byte);
     if arguments_of(command) == 0 {
-        let outside = in_phase(state, Phase::Idle);
-        return obey(command, [0; ARGUMENTS], framebuffer, store, outside, height);
+        let outside = in_phase(port, Phase::Idle);
+        return obey(
+            command,
+            [0; ARGUMENTS],
+            framebuffer,
+            store,
+            panel,
+            outside,
+            height,
+        );
     }
-    done(in_phase(state, Phase::Gathering { code: byte, got: 0 }))
+    done(in_phase(port, Phase::Gathering { code: byte, got: 0 }))
 }
 
 // The arguments with one more, as far as there is a place for it.
-fn gathered(state: State, got: u8, byte: u8) -> [u8; ARGUMENTS]
-    ensures { λ r. ⌜ r ≡ set (state .port .args) got byte ⌝ }
+fn gathered(port: Port, got: u8, byte: u8) -> [u8; ARGUMENTS]
+    ensures { λ r. ⌜ r ≡ set (port .args) got byte ⌝ }
 {
-    let mut args = state.port.args;
+    let mut args = port.args;
     let i = got as usize;
     if i >= ARGUMENTS {
         return args;
@@ -129,14 +147,14 @@ fn gathered(state: State, got: u8, byte: u8) -> [u8; ARGUMENTS]
     args
 }
 
-fn gathering(state: State, code: u8, got: u8, args: [u8; ARGUMENTS]) -> State
-    ensures { λ r. ⌜ r ≡ gatheringOf state code got args ⌝ }
+fn gathering(port: Port, code: u8, got: u8, args: [u8; ARGUMENTS]) -> Port
+    ensures { λ r. ⌜ r ≡ withPhase port (Gathering code got) args ⌝ }
 {
-    let text = state.port.text;
-    let drawing = state.port.drawing;
-    let flow = state.port.flow;
-    let refusals = state.port.refusals;
-    let port = Port {
+    let text = port.text;
+    let drawing = port.drawing;
+    let flow = port.flow;
+    let refusals = port.refusals;
+    Port {
         phase: Phase::Gathering {
             code: code,
             got: got,
@@ -146,8 +164,7 @@ fn gathering(state: State, code: u8, got: u8, args: [u8; ARGUMENTS]) -> State
         drawing: drawing,
         flow: flow,
         refusals: refusals,
-    };
-    with_port(state, port)
+    }
 }
 
 // Whether a saved bitmap's number is due.
@@ -161,8 +178,8 @@ fn is_bitmap_due(code: u8, got: u8) -> bool
 }
 
 // A saved bitmap's number: one that the directory does not have ends the command.
-fn take_bitmap(store: &[u8], state: State, byte: u8) -> Outcome
-    ensures { λ r. ⌜ Stores (λ w. argument w 98 0 byte) state (now (store .entry)) (now (store .entry)) r ⌝ }
+fn take_bitmap(store: &[u8], port: Port, byte: u8) -> Outcome
+    ensures { λ r. ⌜ Obeys untold (λ w. argument w 98 0 byte) port unlent (lent (now (store .entry)) (now (store .entry))) unlent r ⌝ }
 {
     let found = find(store, BITMAP, byte);
     let Found::At {
@@ -171,56 +188,63 @@ fn take_bitmap(store: &[u8], state: State, byte: u8) -> Outcome
         size: _,
     } = found
     else {
-        return refused(state, NO_SUCH_FILE);
+        return refused(port, NO_SUCH_FILE);
     };
-    done(gathering(state, SHOW_BITMAP, 1, gathered(state, 0, byte)))
+    done(gathering(port, SHOW_BITMAP, 1, gathered(port, 0, byte)))
 }
 
 // An argument: the last one has its command obeyed.
 fn take_argument(
     framebuffer: &mut [u8],
     store: &mut [u8],
-    state: State,
+    panel: &mut [u8],
+    port: Port,
     height: u8,
     code: u8,
     got: u8,
     byte: u8,
 ) -> Outcome
-    ensures { λ r. ⌜ AltersOn height (λ w. argument w code got byte) state (now (framebuffer .entry)) (now (framebuffer .exit)) (now (store .entry)) (now (store .exit)) r ⌝ }
+    ensures { λ r. ⌜ Obeys (told height) (λ w. argument w code got byte) port (lent (now (framebuffer .entry)) (now (framebuffer .exit))) (lent (now (store .entry)) (now (store .exit))) (lent (now (panel .entry)) (now (panel .exit))) r ⌝ }
 {
     if is_bitmap_due(code, got) {
-        return take_bitmap(store, state, byte);
+        return take_bitmap(store, port, byte);
     }
     let command = command_of(code);
-    let args = gathered(state, got, byte);
+    let args = gathered(port, got, byte);
     if got as u16 + 1 < arguments_of(command) as u16 {
-        return done(gathering(state, code, got + 1, args));
+        return done(gathering(port, code, got + 1, args));
     }
-    let outside = in_phase(state, Phase::Idle);
-    obey(command, args, framebuffer, store, outside, height)
+    let outside = in_phase(port, Phase::Idle);
+    obey(command, args, framebuffer, store, panel, outside, height)
 }
 
 // Outside a command 254 begins one, and any other byte is a character.
-fn take_alone(framebuffer: &mut [u8], store: &[u8], state: State, height: u8, byte: u8) -> Outcome
-    ensures { λ r. ⌜ ShowsOn height (λ w. alone w byte) state (now (framebuffer .entry)) (now (framebuffer .exit)) (now (store .entry)) r ⌝ }
+fn take_alone(framebuffer: &mut [u8], store: &[u8], port: Port, height: u8, byte: u8) -> Outcome
+    ensures { λ r. ⌜ Obeys (told height) (λ w. alone w byte) port (lent (now (framebuffer .entry)) (now (framebuffer .exit))) (lent (now (store .entry)) (now (store .entry))) unlent r ⌝ }
 {
     if byte == PREFIX {
-        return done(in_phase(state, Phase::Prefix));
+        return done(in_phase(port, Phase::Prefix));
     }
-    text::draw_character(framebuffer, store, state, height, byte)
+    text::draw_character(framebuffer, store, port, height, byte)
 }
 
 // A byte of the stream.
-pub fn step(framebuffer: &mut [u8], store: &mut [u8], state: State, height: u8, byte: u8) -> Outcome
-    ensures { λ r. ⌜ AltersOn height (λ w. outcome w byte) state (now (framebuffer .entry)) (now (framebuffer .exit)) (now (store .entry)) (now (store .exit)) r ⌝ }
+pub fn step(
+    framebuffer: &mut [u8],
+    store: &mut [u8],
+    panel: &mut [u8],
+    port: Port,
+    height: u8,
+    byte: u8,
+) -> Outcome
+    ensures { λ r. ⌜ Obeys (told height) (λ w. outcome w byte) port (lent (now (framebuffer .entry)) (now (framebuffer .exit))) (lent (now (store .entry)) (now (store .exit))) (lent (now (panel .entry)) (now (panel .exit))) r ⌝ }
 {
-    let port = state.port;
     let phase = port.phase;
     match phase {
-        Phase::Idle => take_alone(framebuffer, store, state, height, byte),
-        Phase::Prefix => take_code(framebuffer, store, state, height, byte),
+        Phase::Idle => take_alone(framebuffer, store, port, height, byte),
+        Phase::Prefix => take_code(framebuffer, store, panel, port, height, byte),
         Phase::Gathering { code, got } => {
-            take_argument(framebuffer, store, state, height, code, got, byte)
+            take_argument(framebuffer, store, panel, port, height, code, got, byte)
         }
         Phase::Inline {
             x1,
@@ -228,7 +252,7 @@ pub fn step(framebuffer: &mut [u8], store: &mut [u8], state: State, height: u8, 
             x2,
             y2,
             done,
-        } => pictures::inline_data(framebuffer, state, x1, y1, x2, y2, done, byte),
+        } => pictures::inline_data(framebuffer, port, x1, y1, x2, y2, done, byte),
         Phase::Upload {
             kind,
             number,
@@ -236,16 +260,6 @@ pub fn step(framebuffer: &mut [u8], store: &mut [u8], state: State, height: u8, 
             stored,
             waiting,
             byte: held,
-        } => storage::upload_data(
-            store,
-            state,
-            kind,
-            number,
-            size,
-            stored,
-            waiting,
-            held,
-            byte,
-        ),
+        } => storage::upload_data(store, port, kind, number, size, stored, waiting, held, byte),
     }
 }

@@ -37,8 +37,25 @@ module _ (p : List ℕ) (n i : ℕ) (number : i ≡ n) where
       → v ≡ at p (7 * i + 6) → barSlot (eqb f 1) (barOf k x1 y1 x2 y2 v) ≡ barAt (panelOf p) n
   bar-read f k x1 y1 x2 y2 v h ef ek e1 e2 e3 e4 ev =
       let z : 7 * i + 0 ≡ 7 * i = omega arith in
-      rw (ef, ek, e1, e2, e3, e4, ev, ← number, bar-in p i h, getD-drop (7 * i) p 0 0, getD-drop (7 * i) p 1 0, getD-drop (7 * i) p 2 0, getD-drop (7 * i) p 3 0, getD-drop (7 * i) p 4 0,
-        getD-drop (7 * i) p 5 0, getD-drop (7 * i) p 6 0, z)
+      rw (
+        ef,
+        ek,
+        e1,
+        e2,
+        e3,
+        e4,
+        ev,
+        ← number,
+        bar-in p i h,
+        getD-drop (7 * i) p 0 0,
+        getD-drop (7 * i) p 1 0,
+        getD-drop (7 * i) p 2 0,
+        getD-drop (7 * i) p 3 0,
+        getD-drop (7 * i) p 4 0,
+        getD-drop (7 * i) p 5 0,
+        getD-drop (7 * i) p 6 0,
+        z,
+      )
 
   pub no-strip : 8 ≤ i → noStrip ≡ stripAt (panelOf p) n
   no-strip h = sym (List·getD-eq-default (panelOf p .strips) noStrip {n = n} (omega (arith, strips-count p)))
@@ -47,8 +64,22 @@ module _ (p : List ℕ) (n i : ℕ) (number : i ≡ n) where
       → y2 ≡ at p (112 + 5 * i + 4) → strip (eqb f 1) x1 y1 x2 y2 ≡ stripAt (panelOf p) n
   strip-read f x1 y1 x2 y2 h ef e1 e2 e3 e4 =
       let z : 112 + 5 * i + 0 ≡ 112 + 5 * i = omega arith in
-      rw (ef, e1, e2, e3, e4, ← number, strip-in p i h, drop-drop (5 * i) 112 p, getD-drop (112 + 5 * i) p 0 0, getD-drop (112 + 5 * i) p 1 0, getD-drop (112 + 5 * i) p 2 0,
-        getD-drop (112 + 5 * i) p 3 0, getD-drop (112 + 5 * i) p 4 0, z)
+      rw (
+        ef,
+        e1,
+        e2,
+        e3,
+        e4,
+        ← number,
+        strip-in p i h,
+        drop-drop (5 * i) 112 p,
+        getD-drop (112 + 5 * i) p 0 0,
+        getD-drop (112 + 5 * i) p 1 0,
+        getD-drop (112 + 5 * i) p 2 0,
+        getD-drop (112 + 5 * i) p 3 0,
+        getD-drop (112 + 5 * i) p 4 0,
+        z,
+      )
 
 pub serial-read : (p : List ℕ) (f a b : ℕ) → f ≡ at p 152 → a ≡ at p 153 → b ≡ at p 154 → serial (eqb f 1) a b ≡ panelOf p .serial
 unfolding panelOf

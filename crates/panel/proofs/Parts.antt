@@ -172,9 +172,19 @@ module _ (p : List ℕ) where
       → over (slotBytes (barSlot true b)) (7 * n) p ≡ revised p (withBars (panelOf p) (set (panelOf p .bars) n (barSlot true b)))
   unfolding revised
   bar-written n b h =
-      merged-over (slotBytes (barSlot true b)) p (panelBytes (panelOf p)) (7 * n) (omega (arith, length-panel p))
-      (bar-flag n h, (bar-raw n _ 0 _ h (omega arith) (omega arith), (bar-raw n _ 1 _ h (omega arith) (omega arith), (bar-raw n _ 2 _ h (omega arith) (omega arith),
-      (bar-raw n _ 3 _ h (omega arith) (omega arith), (bar-raw n _ 4 _ h (omega arith) (omega arith), (bar-raw n _ 5 _ h (omega arith) (omega arith), tt)))))))
+      merged-over (slotBytes (barSlot true b)) p (panelBytes (panelOf p)) (7 * n) (omega (arith, length-panel p)) (
+        bar-flag n h,
+        (
+          bar-raw n _ 0 _ h (omega arith) (omega arith),
+          (
+            bar-raw n _ 1 _ h (omega arith) (omega arith),
+            (
+              bar-raw n _ 2 _ h (omega arith) (omega arith),
+              (bar-raw n _ 3 _ h (omega arith) (omega arith), (bar-raw n _ 4 _ h (omega arith) (omega arith), (bar-raw n _ 5 _ h (omega arith) (omega arith), tt))),
+            ),
+          ),
+        ),
+      )
       ∙ ap (merged p (panelBytes (panelOf p))) (sym (bar-bytes n (barSlot true b) h))
 
   -- ---- one strip
@@ -204,9 +214,16 @@ module _ (p : List ℕ) where
       → over (stripBytes (strip true x1 y1 x2 y2)) (112 + 5 * n) p ≡ revised p (withStrips (panelOf p) (set (panelOf p .strips) n (strip true x1 y1 x2 y2)))
   unfolding revised
   strip-written n x1 y1 x2 y2 h =
-      merged-over (stripBytes (strip true x1 y1 x2 y2)) p (panelBytes (panelOf p)) (112 + 5 * n) (omega (arith, length-panel p))
-      (strip-flag n _ h refl, (strip-raw n _ 0 _ h (omega arith) (omega arith), (strip-raw n _ 1 _ h (omega arith) (omega arith),
-      (strip-raw n _ 2 _ h (omega arith) (omega arith), (strip-raw n _ 3 _ h (omega arith) (omega arith), tt)))))
+      merged-over (stripBytes (strip true x1 y1 x2 y2)) p (panelBytes (panelOf p)) (112 + 5 * n) (omega (arith, length-panel p)) (
+        strip-flag n _ h refl,
+        (
+          strip-raw n _ 0 _ h (omega arith) (omega arith),
+          (
+            strip-raw n _ 1 _ h (omega arith) (omega arith),
+            (strip-raw n _ 2 _ h (omega arith) (omega arith), (strip-raw n _ 3 _ h (omega arith) (omega arith), tt)),
+          ),
+        ),
+      )
       ∙ ap (merged p (panelBytes (panelOf p))) (sym (strip-bytes n (strip true x1 y1 x2 y2) h))
 
   -- ---- the six bytes behind them

@@ -1,5 +1,8 @@
-use Rattle.interpreter.proofs.Commands.{by-sets, by-sets-on, by-paints, by-stores, by-stores-on, by-shows, unknown-is, clear-is, home-is, point-is, place-is, wrap-on-is, wrap-off-is, scroll-on-is, scroll-off-is, font-is, metrics-is, colour-is, pixel-is, line-is, continue-is, frame-is, solid-is, bar-is, write-is, strip-is, shift-is, bitmap-is, inline-is, upload-font-is, upload-bitmap-is, delete-is, purge-is, flow-on-is, flow-off-is, contrast-is, backlight-on-is, backlight-off-is, serial-is}
-use Rattle.outcome.proofs.Laws.{alters-refused}
+use mathlib.Core.Path.{refl, sym, ap}
+use Rattle.interpreter.proofs.Commands.{obeys-command, obeys-unknown}
+use Rattle.rules.specs.Files.{beginUpload}
+use Rattle.rules.specs.Step.{obey}
+use Rattle.state.specs.declared.Command.the-variants.{Unknown, Clear, Home, SetPoint, SetPlace, WrapOn, WrapOff, ScrollOn, ScrollOff, ChooseFont, SetMetrics, SetColour, DrawPixel, DrawLine, ContinueLine, DrawFrame, FillRectangle, SetUpBar, WriteBar, SetUpStrip, ShiftStrip, ShowBitmap, DrawInline, UploadFont, UploadBitmap, DeleteFile, Purge, FlowOn, FlowOff, SetContrast, BacklightOn, BacklightOff, SetSerial}
 use borrow.Author.Needs.{needs}
 use Rattle.interpreter.proofs.obey.Statement.{statement}
 use Rattle.interpreter.proofs.obey.Tie as tie
@@ -407,151 +410,208 @@ set-serial-requires : tie.Need-set-serial-requires
 set-serial-requires c κs = search needs
 
 returns : tie.Need-returns
-returns c = alters-refused 16 (c .refused .ensures) (unknown-is _ _ _ (search needs))
+unfolding obey
+returns c = obeys-command (c .before .before .before .before .before .before .args .command) Unknown _ (search needs) (obeys-unknown (c .refused .ensures)) (λ g h. tt) (λ g s p. refl) (λ g s q. refl)
 
 same-length : tie.Need-same-length
 same-length c = search needs
 
 returns-2 : tie.Need-returns-2
-returns-2 c = by-paints _ _ _ (c .before .before .clear .ensures) (clear-is _ _ _ (search needs))
+unfolding obey
+returns-2 c = obeys-command (c .before .before .before .before .before .before .before .before .before .args .command) Clear _ (search needs) (c .before .before .clear .ensures) (λ g h. tt) (λ g s p. refl) (λ g s q. refl)
 
 returns-3 : tie.Need-returns-3
-returns-3 c = by-sets _ _ _ (c .home .ensures) (home-is _ _ _ (search needs))
+unfolding obey
+returns-3 c = obeys-command (c .before .before .before .before .before .before .args .command) Home _ (search needs) (c .home .ensures) (λ g h. tt) (λ g s p. refl) (λ g s q. refl)
 
 returns-4 : tie.Need-returns-4
-returns-4 c = by-sets _ _ _ (c .set-point .ensures) (point-is _ _ _ (search needs))
+unfolding obey
+returns-4 c = obeys-command (c .before .before .before .before .before .before .args .command) SetPoint _ (search needs) (c .set-point .ensures) (λ g h. tt) (λ g s p. refl) (λ g s q. refl)
 
 same-length-2 : tie.Need-same-length-2
 same-length-2 c = search needs
 
 returns-5 : tie.Need-returns-5
-returns-5 c = by-stores-on _ _ _ (c .set-place .ensures) (place-is _ _ _ (search needs))
+unfolding obey
+returns-5 c = obeys-command (c .before .before .before .before .before .before .before .args .command) SetPlace _ (search needs) (c .set-place .ensures) (λ g h. h) (λ g s p. refl) (λ g s q. refl)
 
 returns-6 : tie.Need-returns-6
-returns-6 c = by-sets _ _ _ (c .set-wrap .ensures) (wrap-on-is _ _ _ (search needs))
+unfolding obey
+returns-6 c = obeys-command (c .before .before .before .before .before .before .args .command) WrapOn _ (search needs) (c .set-wrap .ensures) (λ g h. tt) (λ g s p. refl) (λ g s q. refl)
 
 returns-7 : tie.Need-returns-7
-returns-7 c = by-sets _ _ _ (c .set-wrap2 .ensures) (wrap-off-is _ _ _ (search needs))
+unfolding obey
+returns-7 c = obeys-command (c .before .before .before .before .before .before .args .command) WrapOff _ (search needs) (c .set-wrap2 .ensures) (λ g h. tt) (λ g s p. refl) (λ g s q. refl)
 
 returns-8 : tie.Need-returns-8
-returns-8 c = by-sets _ _ _ (c .set-scroll .ensures) (scroll-on-is _ _ _ (search needs))
+unfolding obey
+returns-8 c = obeys-command (c .before .before .before .before .before .before .args .command) ScrollOn _ (search needs) (c .set-scroll .ensures) (λ g h. tt) (λ g s p. refl) (λ g s q. refl)
 
 returns-9 : tie.Need-returns-9
-returns-9 c = by-sets _ _ _ (c .set-scroll2 .ensures) (scroll-off-is _ _ _ (search needs))
+unfolding obey
+returns-9 c = obeys-command (c .before .before .before .before .before .before .args .command) ScrollOff _ (search needs) (c .set-scroll2 .ensures) (λ g h. tt) (λ g s p. refl) (λ g s q. refl)
 
 same-length-3 : tie.Need-same-length-3
 same-length-3 c = search needs
 
 returns-10 : tie.Need-returns-10
-returns-10 c = by-stores-on _ _ _ (c .choose-font .ensures) (font-is _ _ _ (search needs))
+unfolding obey
+returns-10 c = obeys-command (c .before .before .before .before .before .before .before .args .command) ChooseFont _ (search needs) (c .choose-font .ensures) (λ g h. h) (λ g s p. refl) (λ g s q. refl)
 
 returns-11 : tie.Need-returns-11
-returns-11 c = by-sets _ _ _ (c .set-metrics .ensures) (metrics-is _ _ _ (search needs))
+unfolding obey
+returns-11 c = obeys-command (c .before .before .before .before .before .before .args .command) SetMetrics _ (search needs) (c .set-metrics .ensures) (λ g h. tt) (λ g s p. refl) (λ g s q. refl)
 
 returns-12 : tie.Need-returns-12
-returns-12 c = by-sets _ _ _ (c .set-colour .ensures) (colour-is _ _ _ (search needs))
+unfolding obey
+returns-12 c = obeys-command (c .before .before .before .before .before .before .args .command) SetColour _ (search needs) (c .set-colour .ensures) (λ g h. tt) (λ g s p. refl) (λ g s q. refl)
 
 same-length-4 : tie.Need-same-length-4
 same-length-4 c = search needs
 
 returns-13 : tie.Need-returns-13
-returns-13 c = by-paints _ _ _ (c .before .before .draw-pixel .ensures) (pixel-is _ _ _ (search needs))
+unfolding obey
+returns-13 c = obeys-command (c .before .before .before .before .before .before .before .before .before .args .command) DrawPixel _ (search needs) (c .before .before .draw-pixel .ensures) (λ g h. tt) (λ g s p. refl) (λ g s q. refl)
 
 same-length-5 : tie.Need-same-length-5
 same-length-5 c = search needs
 
 returns-14 : tie.Need-returns-14
-returns-14 c = by-paints _ _ _ (c .before .before .draw-line .ensures) (line-is _ _ _ (search needs))
+unfolding obey
+returns-14 c = obeys-command (c .before .before .before .before .before .before .before .before .before .args .command) DrawLine _ (search needs) (c .before .before .draw-line .ensures) (λ g h. tt) (λ g s p. refl) (λ g s q. refl)
 
 same-length-6 : tie.Need-same-length-6
 same-length-6 c = search needs
 
 returns-15 : tie.Need-returns-15
-returns-15 c = by-paints _ _ _ (c .before .before .draw-line2 .ensures) (continue-is _ _ _ (search needs))
+unfolding obey
+returns-15 c = obeys-command (c .before .before .before .before .before .before .before .before .before .before .args .command) ContinueLine _ (search needs) (c .before .before .draw-line2 .ensures) (λ g h. tt) (λ g s p. refl) (λ g s q. refl)
 
 same-length-7 : tie.Need-same-length-7
 same-length-7 c = search needs
 
 returns-16 : tie.Need-returns-16
-returns-16 c = by-paints _ _ _ (c .before .before .draw-frame .ensures) (frame-is _ _ _ (search needs))
+unfolding obey
+returns-16 c = obeys-command (c .before .before .before .before .before .before .before .before .before .args .command) DrawFrame _ (search needs) (c .before .before .draw-frame .ensures) (λ g h. tt) (λ g s p. refl) (λ g s q. refl)
 
 same-length-8 : tie.Need-same-length-8
 same-length-8 c = search needs
 
 returns-17 : tie.Need-returns-17
-returns-17 c = by-paints _ _ _ (c .before .before .fill-rectangle .ensures) (solid-is _ _ _ (search needs))
-
-returns-18 : tie.Need-returns-18
-returns-18 c = by-sets-on _ _ _ (c .set-up-bar .ensures) (bar-is _ _ _ (search needs))
+unfolding obey
+returns-17 c = obeys-command (c .before .before .before .before .before .before .before .before .before .args .command) FillRectangle _ (search needs) (c .before .before .fill-rectangle .ensures) (λ g h. tt) (λ g s p. refl) (λ g s q. refl)
 
 same-length-9 : tie.Need-same-length-9
 same-length-9 c = search needs
 
-returns-19 : tie.Need-returns-19
-returns-19 c = by-paints _ _ _ (c .before .before .write-bar .ensures) (write-is _ _ _ (search needs))
-
-returns-20 : tie.Need-returns-20
-returns-20 c = by-sets-on _ _ _ (c .set-up-strip .ensures) (strip-is _ _ _ (search needs))
+returns-18 : tie.Need-returns-18
+unfolding obey
+returns-18 c = obeys-command (c .before .before .before .before .before .before .before .before .before .args .command) SetUpBar _ (search needs) (c .before .before .set-up-bar .ensures) (λ g h. h) (λ g s p. refl) (λ g s q. refl)
 
 same-length-10 : tie.Need-same-length-10
 same-length-10 c = search needs
 
-returns-21 : tie.Need-returns-21
-returns-21 c = by-paints _ _ _ (c .before .before .shift-strip .ensures) (shift-is _ _ _ (search needs))
-
 same-length-11 : tie.Need-same-length-11
 same-length-11 c = search needs
+
+returns-19 : tie.Need-returns-19
+unfolding obey
+returns-19 c = obeys-command (c .before .before .before .before .before .before .before .before .before .before .before .before .args .command) WriteBar _ (search needs) (c .before .before .before .before .write-bar .ensures) (λ g h. tt) (λ g s p. refl) (λ g s q. refl)
 
 same-length-12 : tie.Need-same-length-12
 same-length-12 c = search needs
 
-returns-22 : tie.Need-returns-22
-returns-22 c = by-shows _ _ _ (c .before .before .show-bitmap .ensures) (bitmap-is _ _ _ (search needs))
-
-returns-23 : tie.Need-returns-23
-returns-23 c = by-sets _ _ _ (c .begin-inline .ensures) (inline-is _ _ _ (search needs))
+returns-20 : tie.Need-returns-20
+unfolding obey
+returns-20 c = obeys-command (c .before .before .before .before .before .before .before .before .before .args .command) SetUpStrip _ (search needs) (c .before .before .set-up-strip .ensures) (λ g h. h) (λ g s p. refl) (λ g s q. refl)
 
 same-length-13 : tie.Need-same-length-13
 same-length-13 c = search needs
 
-returns-24 : tie.Need-returns-24
-returns-24 c = by-stores _ _ _ (c .begin-upload .ensures) (upload-font-is _ _ _ _ (search needs) (c .before .size-of .ensures))
-
 same-length-14 : tie.Need-same-length-14
 same-length-14 c = search needs
 
-returns-25 : tie.Need-returns-25
-returns-25 c = by-stores _ _ _ (c .begin-upload2 .ensures) (upload-bitmap-is _ _ _ _ (search needs) (c .before .size-of2 .ensures))
+returns-21 : tie.Need-returns-21
+unfolding obey
+returns-21 c = obeys-command (c .before .before .before .before .before .before .before .before .before .before .args .command) ShiftStrip _ (search needs) (c .before .before .shift-strip .ensures) (λ g h. tt) (λ g s p. refl) (λ g s q. refl)
 
 same-length-15 : tie.Need-same-length-15
 same-length-15 c = search needs
 
-returns-26 : tie.Need-returns-26
-returns-26 c = by-stores _ _ _ (c .before .before .delete-file .ensures) (delete-is _ _ _ (search needs))
-
 same-length-16 : tie.Need-same-length-16
 same-length-16 c = search needs
 
+returns-22 : tie.Need-returns-22
+unfolding obey
+returns-22 c = obeys-command (c .before .before .before .before .before .before .before .before .before .before .args .command) ShowBitmap _ (search needs) (c .before .before .show-bitmap .ensures) (λ g h. tt) (λ g s p. refl) (λ g s q. refl)
+
+returns-23 : tie.Need-returns-23
+unfolding obey
+returns-23 c = obeys-command (c .before .before .before .before .before .before .args .command) DrawInline _ (search needs) (c .begin-inline .ensures) (λ g h. tt) (λ g s p. refl) (λ g s q. refl)
+
+same-length-17 : tie.Need-same-length-17
+same-length-17 c = search needs
+
+returns-24 : tie.Need-returns-24
+unfolding obey
+returns-24 c = obeys-command (c .before .before .before .before .before .before .before .before .args .command) UploadFont _ (search needs) (c .begin-upload .ensures) (λ g h. tt) (λ g s p. refl) (λ g s q. ap (beginUpload _ 1 _) (sym (c .before .size-of .ensures)))
+
+same-length-18 : tie.Need-same-length-18
+same-length-18 c = search needs
+
+returns-25 : tie.Need-returns-25
+unfolding obey
+returns-25 c = obeys-command (c .before .before .before .before .before .before .before .before .args .command) UploadBitmap _ (search needs) (c .begin-upload2 .ensures) (λ g h. tt) (λ g s p. refl) (λ g s q. ap (beginUpload _ 2 _) (sym (c .before .size-of2 .ensures)))
+
+same-length-19 : tie.Need-same-length-19
+same-length-19 c = search needs
+
+returns-26 : tie.Need-returns-26
+unfolding obey
+returns-26 c = obeys-command (c .before .before .before .before .before .before .before .before .before .args .command) DeleteFile _ (search needs) (c .before .before .delete-file .ensures) (λ g h. tt) (λ g s p. refl) (λ g s q. refl)
+
+same-length-20 : tie.Need-same-length-20
+same-length-20 c = search needs
+
 returns-27 : tie.Need-returns-27
-returns-27 c = by-stores-on _ _ _ (c .before .before .purge .ensures) (purge-is _ _ _ (search needs))
+unfolding obey
+returns-27 c = obeys-command (c .before .before .before .before .before .before .before .before .before .args .command) Purge _ (search needs) (c .before .before .purge .ensures) (λ g h. h) (λ g s p. refl) (λ g s q. refl)
 
 returns-28 : tie.Need-returns-28
-returns-28 c = by-sets _ _ _ (c .flow-on .ensures) (flow-on-is _ _ _ (search needs))
+unfolding obey
+returns-28 c = obeys-command (c .before .before .before .before .before .before .args .command) FlowOn _ (search needs) (c .flow-on .ensures) (λ g h. tt) (λ g s p. refl) (λ g s q. refl)
 
 returns-29 : tie.Need-returns-29
-returns-29 c = by-sets _ _ _ (c .flow-off .ensures) (flow-off-is _ _ _ (search needs))
+unfolding obey
+returns-29 c = obeys-command (c .before .before .before .before .before .before .args .command) FlowOff _ (search needs) (c .flow-off .ensures) (λ g h. tt) (λ g s p. refl) (λ g s q. refl)
+
+same-length-21 : tie.Need-same-length-21
+same-length-21 c = search needs
 
 returns-30 : tie.Need-returns-30
-returns-30 c = by-sets _ _ _ (c .set-contrast .ensures) (contrast-is _ _ _ (search needs))
+unfolding obey
+returns-30 c = obeys-command (c .before .before .before .before .before .before .before .before .before .args .command) SetContrast _ (search needs) (c .before .before .set-contrast .ensures) (λ g h. tt) (λ g s p. refl) (λ g s q. refl)
+
+same-length-22 : tie.Need-same-length-22
+same-length-22 c = search needs
 
 returns-31 : tie.Need-returns-31
-returns-31 c = by-sets _ _ _ (c .backlight-on .ensures) (backlight-on-is _ _ _ (search needs))
+unfolding obey
+returns-31 c = obeys-command (c .before .before .before .before .before .before .before .before .before .args .command) BacklightOn _ (search needs) (c .before .before .backlight-on .ensures) (λ g h. tt) (λ g s p. refl) (λ g s q. refl)
+
+same-length-23 : tie.Need-same-length-23
+same-length-23 c = search needs
 
 returns-32 : tie.Need-returns-32
-returns-32 c = by-sets _ _ _ (c .backlight-off .ensures) (backlight-off-is _ _ _ (search needs))
+unfolding obey
+returns-32 c = obeys-command (c .before .before .before .before .before .before .before .before .before .args .command) BacklightOff _ (search needs) (c .before .before .backlight-off .ensures) (λ g h. tt) (λ g s p. refl) (λ g s q. refl)
+
+same-length-24 : tie.Need-same-length-24
+same-length-24 c = search needs
 
 returns-33 : tie.Need-returns-33
-returns-33 c = by-sets _ _ _ (c .set-serial .ensures) (serial-is _ _ _ (search needs))
+unfolding obey
+returns-33 c = obeys-command (c .before .before .before .before .before .before .before .before .before .args .command) SetSerial _ (search needs) (c .before .before .set-serial .ensures) (λ g h. tt) (λ g s p. refl) (λ g s q. refl)
 
 pub obey-spec : {M : Type 1} → statement M
 obey-spec =
@@ -716,27 +776,35 @@ obey-spec =
     returns-16
     same-length-8
     returns-17
-    returns-18
     same-length-9
-    returns-19
-    returns-20
+    returns-18
     same-length-10
-    returns-21
     same-length-11
+    returns-19
     same-length-12
+    returns-20
+    same-length-13
+    same-length-14
+    returns-21
+    same-length-15
+    same-length-16
     returns-22
     returns-23
-    same-length-13
+    same-length-17
     returns-24
-    same-length-14
+    same-length-18
     returns-25
-    same-length-15
+    same-length-19
     returns-26
-    same-length-16
+    same-length-20
     returns-27
     returns-28
     returns-29
+    same-length-21
     returns-30
+    same-length-22
     returns-31
+    same-length-23
     returns-32
+    same-length-24
     returns-33)

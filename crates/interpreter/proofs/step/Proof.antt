@@ -1,5 +1,6 @@
+use mathlib.Core.Path.{refl}
 use Rattle.interpreter.proofs.Phases.{in-idle, in-prefix, in-gathering, in-inline, in-upload}
-use Rattle.interpreter.proofs.Commands.{by-paints, by-stores, by-shows-on, by-alters}
+use Rattle.outcome.proofs.Laws.{obeys-as}
 use borrow.Author.Needs.{needs}
 use Rattle.interpreter.proofs.step.Statement.{statement}
 use Rattle.interpreter.proofs.step.Tie as tie
@@ -41,7 +42,7 @@ same-length-2 : tie.Need-same-length-2
 same-length-2 c = search needs
 
 returns : tie.Need-returns
-returns c = by-shows-on _ _ _ (c .before .before .take-alone .ensures) (in-idle _ _ (search needs))
+returns c = obeys-as (c .before .before .take-alone .ensures) (λ g h. h) (λ g s p. refl) (λ g s p t. in-idle _ _ (search needs))
 
 same-length-3 : tie.Need-same-length-3
 same-length-3 c = search needs
@@ -49,29 +50,35 @@ same-length-3 c = search needs
 same-length-4 : tie.Need-same-length-4
 same-length-4 c = search needs
 
-returns-2 : tie.Need-returns-2
-returns-2 c = by-alters _ _ _ (c .before .before .before .before .take-code .ensures) (in-prefix _ _ (search needs))
-
 same-length-5 : tie.Need-same-length-5
 same-length-5 c = search needs
+
+returns-2 : tie.Need-returns-2
+returns-2 c = obeys-as (c .before .before .before .before .before .before .take-code .ensures) (λ g h. h) (λ g s p. refl) (λ g s p t. in-prefix _ _ (search needs))
 
 same-length-6 : tie.Need-same-length-6
 same-length-6 c = search needs
 
-returns-3 : tie.Need-returns-3
-returns-3 c = by-alters _ _ _ (c .before .before .before .before .take-argument .ensures) (in-gathering _ _ _ _ (c .before .before .before .before .before .before .before .before .phase .given .1))
-
 same-length-7 : tie.Need-same-length-7
 same-length-7 c = search needs
-
-returns-4 : tie.Need-returns-4
-returns-4 c = by-paints _ _ _ (c .before .before .inline-data .ensures) (in-inline _ _ _ _ _ _ _ (c .before .before .before .before .before .phase2 .given .1))
 
 same-length-8 : tie.Need-same-length-8
 same-length-8 c = search needs
 
+returns-3 : tie.Need-returns-3
+returns-3 c = obeys-as (c .before .before .before .before .before .before .take-argument .ensures) (λ g h. h) (λ g s p. refl) (λ g s p t. in-gathering _ _ _ _ (c .before .before .before .before .before .before .before .before .before .before .before .phase .given .1))
+
+same-length-9 : tie.Need-same-length-9
+same-length-9 c = search needs
+
+returns-4 : tie.Need-returns-4
+returns-4 c = obeys-as (c .before .before .inline-data .ensures) (λ g h. tt) (λ g s p. refl) (λ g s p t. in-inline _ _ _ _ _ _ _ (c .before .before .before .before .before .phase2 .given .1))
+
+same-length-10 : tie.Need-same-length-10
+same-length-10 c = search needs
+
 returns-5 : tie.Need-returns-5
-returns-5 c = by-stores _ _ _ (c .before .before .upload-data .ensures) (in-upload _ _ _ _ _ _ _ _ (c .before .before .before .before .before .phase3 .given .1))
+returns-5 c = obeys-as (c .before .before .upload-data .ensures) (λ g h. tt) (λ g s p. refl) (λ g s p t. in-upload _ _ _ _ _ _ _ _ (c .before .before .before .before .before .phase3 .given .1))
 
 pub step-spec : {M : Type 1} → statement M
 step-spec =
@@ -92,11 +99,13 @@ step-spec =
     returns
     same-length-3
     same-length-4
-    returns-2
     same-length-5
+    returns-2
     same-length-6
-    returns-3
     same-length-7
-    returns-4
     same-length-8
+    returns-3
+    same-length-9
+    returns-4
+    same-length-10
     returns-5)

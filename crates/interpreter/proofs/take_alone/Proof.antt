@@ -1,5 +1,6 @@
-use Rattle.interpreter.proofs.Phases.{alone-prefix, character-shown}
-use Rattle.outcome.proofs.Laws.{shows-on-done, done-with}
+use mathlib.Core.Path.{refl}
+use Rattle.interpreter.proofs.Phases.{alone-prefix, alone-character}
+use Rattle.outcome.proofs.Laws.{obeys-done, obeys-as, done-with}
 use borrow.Author.Needs.{needs}
 use Rattle.interpreter.proofs.take_alone.Statement.{statement}
 use Rattle.interpreter.proofs.take_alone.Tie as tie
@@ -11,7 +12,7 @@ done-requires : tie.Need-done-requires
 done-requires c κs = search needs
 
 returns : tie.Need-returns
-returns c = shows-on-done _ (done-with (c .before .in-phase .ensures) (c .done .ensures)) (λ t. alone-prefix _ _ _ _ (search needs))
+returns c = obeys-done _ (done-with (c .before .in-phase .ensures) (c .done .ensures)) (λ p. refl) (λ g s p t. alone-prefix _ _ _ _ (search needs))
 
 draw-character-requires : tie.Need-draw-character-requires
 draw-character-requires c κs = search needs
@@ -20,7 +21,7 @@ same-length : tie.Need-same-length
 same-length c = search needs
 
 returns-2 : tie.Need-returns-2
-returns-2 c = character-shown _ (search needs) (c .before .before .draw-character .ensures)
+returns-2 c = obeys-as (c .before .before .draw-character .ensures) (λ g h. h) (λ g s p. refl) (λ g s p t. alone-character _ _ (search needs))
 
 pub take-alone-spec : {M : Type 1} → statement M
 take-alone-spec =

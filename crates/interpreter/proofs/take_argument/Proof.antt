@@ -1,6 +1,6 @@
+use mathlib.Core.Path.{refl}
 use Rattle.interpreter.proofs.Phases.{bitmap-is, argument-kept, argument-obeyed}
-use Rattle.interpreter.proofs.Commands.{by-stores}
-use Rattle.outcome.proofs.Laws.{alters-done, done-with}
+use Rattle.outcome.proofs.Laws.{obeys-done, obeys-as, done-with}
 use borrow.Author.Needs.{needs}
 use Rattle.interpreter.proofs.take_argument.Statement.{statement}
 use Rattle.interpreter.proofs.take_argument.Tie as tie
@@ -15,7 +15,7 @@ same-length : tie.Need-same-length
 same-length c = search needs
 
 returns : tie.Need-returns
-returns c = by-stores _ _ _ (c .take-bitmap .ensures) (bitmap-is _ _ _ _ _ (c .before .before .before .is-bitmap-due .ensures) (search needs))
+returns c = obeys-as (c .take-bitmap .ensures) (λ g h. tt) (λ g s p. refl) (λ g s p t. bitmap-is _ _ _ _ _ (c .before .before .before .is-bitmap-due .ensures) (search needs))
 
 command-of-requires : tie.Need-command-of-requires
 command-of-requires c κs = search needs
@@ -42,7 +42,7 @@ done-requires : tie.Need-done-requires
 done-requires c κs = search needs
 
 returns-2 : tie.Need-returns-2
-returns-2 c = alters-done _ (done-with (c .before .gathering .ensures) (c .done .ensures)) (argument-kept _ _ _ _ _ _ _ _ _ _ (c .before .before .before .before .before .before .before .is-bitmap-due .ensures) (search needs) (c .before .before .before .before .before .command-of .ensures) (c .before .before .before .arguments-of .ensures) (c .before .before .before .before .gathered .ensures) (search needs))
+returns-2 c = obeys-done _ (done-with (c .before .gathering .ensures) (c .done .ensures)) (λ p. refl) (λ g s p t. argument-kept _ _ _ _ _ _ _ _ (c .before .before .before .before .before .before .before .is-bitmap-due .ensures) (search needs) (c .before .before .before .before .before .command-of .ensures) (c .before .before .before .arguments-of .ensures) (c .before .before .before .before .gathered .ensures) _ _ _ (search needs))
 
 in-phase-requires : tie.Need-in-phase-requires
 in-phase-requires c κs = search needs
@@ -56,8 +56,11 @@ same-length-2 c = search needs
 same-length-3 : tie.Need-same-length-3
 same-length-3 c = search needs
 
+same-length-4 : tie.Need-same-length-4
+same-length-4 c = search needs
+
 returns-3 : tie.Need-returns-3
-returns-3 c = argument-obeyed _ _ _ _ _ _ _ _ _ _ (c .before .before .before .before .before .before .before .before .before .before .before .before .before .is-bitmap-due .ensures) (search needs) (c .before .before .before .before .before .before .before .before .before .before .before .command-of .ensures) (c .before .before .before .before .before .before .before .before .before .arguments-of .ensures) (c .before .before .before .before .before .before .before .before .before .before .gathered .ensures) _ _ _ _ (search needs) (c .before .before .before .before .before .before .before .in-phase .ensures) (c .before .before .before .before .obey .ensures)
+returns-3 c = argument-obeyed _ _ _ _ _ _ _ _ (c .before .before .before .before .before .before .before .before .before .before .before .before .before .before .before .before .is-bitmap-due .ensures) (search needs) (c .before .before .before .before .before .before .before .before .before .before .before .before .before .before .command-of .ensures) (c .before .before .before .before .before .before .before .before .before .before .before .before .arguments-of .ensures) (c .before .before .before .before .before .before .before .before .before .before .before .before .before .gathered .ensures) _ (search needs) (c .before .before .before .before .before .before .before .before .before .before .in-phase .ensures) (c .before .before .before .before .before .before .obey .ensures)
 
 pub take-argument-spec : {M : Type 1} → statement M
 take-argument-spec =
@@ -80,4 +83,5 @@ take-argument-spec =
     obey-requires
     same-length-2
     same-length-3
+    same-length-4
     returns-3)
