@@ -34,6 +34,7 @@ ghost use lib.Dec.{eqb, ltb};
 ghost use lib.ListN.{length, drop};
 ghost use Rattle.queue.specs.Record.{at};
 ghost use Rattle.record.specs.Layout.{phaseAt, panelAt, barsAt, barSize, stripsAt, stripSize, serialAt};
+ghost use Rattle.record.specs.Reading.{pairAt};
 ghost use Rattle.record.specs.Parts.{clear, everyOf, phaseHolds, textHolds, otherHolds, portHolds, slotHolds, stripHolds, panelHolds};
 
 fn wide(x: u8) -> usize
@@ -48,10 +49,18 @@ pub fn both(a: bool, b: bool) -> bool
     if a { b } else { false }
 }
 
-fn is_flag(b: u8) -> bool
-    ensures { λ t. ⌜ t ≡ ltb b 2 ⌝ }
+fn is_flag(r: &[u8], k: usize) -> bool
+    requires { ⌜ k < length (now r) ⌝ }
+    ensures { λ b. ⌜ b ≡ ltb (at (now (r .entry)) k) 2 ⌝ }
 {
-    b < 2
+    r[k] < 2
+}
+
+fn pair_at(r: &[u8], k: usize) -> u16
+    requires { ⌜ k + 1 < length (now r) ⌝ }
+    ensures { λ n. ⌜ n ≡ pairAt (now (r .entry)) k ⌝ }
+{
+    pair(r[k], r[k + 1])
 }
 
 // To the end, whatever is found: a loop with one way out is done many bytes at a time.
@@ -82,7 +91,7 @@ fn is_inline_phase(r: &[u8]) -> bool
     requires { ⌜ (length (now r) ≡ 201) × (at (now r) phaseAt ≡ 3) ⌝ }
     ensures { λ b. ⌜ b ≡ phaseHolds (now (r .entry)) ⌝ }
 {
-    let done = pair(r[INLINE + 4], r[INLINE + 5]);
+    let done = pair_at(r, INLINE + 4);
     let sound = is_inline(r[INLINE], r[INLINE + 1], r[INLINE + 2], r[INLINE + 3], done);
     let unused = both(is_clear(r, CODE, INLINE), is_clear(r, UPLOAD, TEXT));
     both(sound, unused)
@@ -92,11 +101,13 @@ fn is_upload_phase(r: &[u8]) -> bool
     requires { ⌜ (length (now r) ≡ 201) × (at (now r) phaseAt ≡ 4) ⌝ }
     ensures { λ b. ⌜ b ≡ phaseHolds (now (r .entry)) ⌝ }
 {
-    let size = pair(r[UPLOAD + 2], r[UPLOAD + 3]);
-    let stored = pair(r[UPLOAD + 4], r[UPLOAD + 5]);
-    let waiting = r[UPLOAD + 6];
-    let sound = is_upload(r[UPLOAD], size, stored, waiting == 1, r[UPLOAD + 7]);
-    both(sound, both(is_clear(r, CODE, UPLOAD), is_flag(waiting)))
+    let size = pair_at(r, UPLOAD + 2);
+    let stored = pair_at(r, UPLOAD + 4);
+    let sound = is_upload(r[UPLOAD], size, stored, r[UPLOAD + 6] == 1, r[UPLOAD + 7]);
+    both(
+        sound,
+        both(is_clear(r, CODE, UPLOAD), is_flag(r, UPLOAD + 6)),
+    )
 }
 
 fn is_phase(r: &[u8]) -> bool
@@ -124,8 +135,8 @@ fn is_text(r: &[u8]) -> bool
     requires { ⌜ length (now r) ≡ 201 ⌝ }
     ensures { λ b. ⌜ b ≡ textHolds (now (r .entry)) ⌝ }
 {
-    let flags = both(is_flag(r[TEXT + 9]), is_flag(r[TEXT + 10]));
-    both(pair(r[TEXT + 1], r[TEXT + 2]) <= 495, flags)
+    let flags = both(is_flag(r, TEXT + 9), is_flag(r, TEXT + 10));
+    both(pair_at(r, TEXT + 1) <= 495, flags)
 }
 
 // Drawing, flow, refusals.
@@ -133,7 +144,7 @@ fn are_others(r: &[u8]) -> bool
     requires { ⌜ length (now r) ≡ 201 ⌝ }
     ensures { λ b. ⌜ b ≡ otherHolds (now (r .entry)) ⌝ }
 {
-    let flags = both(is_flag(r[DRAWING]), is_flag(r[FLOW]));
+    let flags = both(is_flag(r, DRAWING), is_flag(r, FLOW));
     both(word(r[FLOW_FULL]) + word(r[FLOW_EMPTY]) < 80, flags)
 }
 
@@ -225,6 +236,6 @@ pub fn is_panel(r: &[u8], height: u8) -> bool
     requires { ⌜ length (now r) ≡ 201 ⌝ }
     ensures { λ b. ⌜ b ≡ panelHolds height (drop panelAt (now (r .entry))) ⌝ }
 {
-    let last = both(is_serial(r), is_flag(r[BACKLIGHT]));
+    let last = both(is_serial(r), is_flag(r, BACKLIGHT));
     both(are_graphs(r, height), last)
 }

@@ -5,14 +5,8 @@ use Rattle.record.proofs.Testing.{others-hold}
 use Rattle.record.proofs.checking.are_others.Statement.{statement}
 use Rattle.record.proofs.checking.are_others.Tie as tie
 
-shared-slice-read-is-flag : tie.Need-shared-slice-read-is-flag
-shared-slice-read-is-flag c = search needs
-
 is-flag-requires : tie.Need-is-flag-requires
 is-flag-requires c κs = search needs
-
-shared-slice-read-is-flag-2 : tie.Need-shared-slice-read-is-flag-2
-shared-slice-read-is-flag-2 c = search needs
 
 is-flag-requires-2 : tie.Need-is-flag-requires-2
 is-flag-requires-2 c κs = search needs
@@ -39,15 +33,13 @@ both-requires-2 : tie.Need-both-requires-2
 both-requires-2 c κs = search needs
 
 returns : tie.Need-returns
-returns c = others-hold _ (λ i. c .before .before .before .before .before .before .before .before .before .before .shared-slice-known .given i .fits) _ _ _ _ _ _ (c .before .before .before .before .before .before .before .before .is-flag .ensures) (c .before .before .before .before .before .before .is-flag2 .ensures) (c .before .before .before .before .before .both .ensures) (c .before .before .before .word .ensures .0) (c .before .word2 .ensures .0) (c .both2 .ensures)
+returns c = others-hold _ (λ i. c .before .before .before .before .before .before .before .before .shared-slice-known .given i .fits) _ _ _ _ _ _ (c .before .before .before .before .before .before .before .is-flag .ensures) (c .before .before .before .before .before .before .is-flag2 .ensures) (c .before .before .before .before .before .both .ensures) (c .before .before .before .word .ensures .0) (c .before .word2 .ensures .0) (c .both2 .ensures)
 
 pub are-others-spec : {M : Type 1} → statement M
 are-others-spec =
     tie.close
     (tie.spec
-    shared-slice-read-is-flag
     is-flag-requires
-    shared-slice-read-is-flag-2
     is-flag-requires-2
     both-requires
     shared-slice-read-word

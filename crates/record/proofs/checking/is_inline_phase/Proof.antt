@@ -5,20 +5,11 @@ use Rattle.record.proofs.Testing.{phase-inlines}
 use Rattle.record.proofs.checking.is_inline_phase.Statement.{statement}
 use Rattle.record.proofs.checking.is_inline_phase.Tie as tie
 
-add-pair : tie.Need-add-pair
-add-pair c = search needs
+add-pair-at : tie.Need-add-pair-at
+add-pair-at c = search needs
 
-shared-slice-read-pair : tie.Need-shared-slice-read-pair
-shared-slice-read-pair c = search needs
-
-add-pair-2 : tie.Need-add-pair-2
-add-pair-2 c = search needs
-
-shared-slice-read-pair-2 : tie.Need-shared-slice-read-pair-2
-shared-slice-read-pair-2 c = search needs
-
-pair-requires : tie.Need-pair-requires
-pair-requires c κs = search needs
+pair-at-requires : tie.Need-pair-at-requires
+pair-at-requires c κs = search needs
 
 shared-slice-read-is-inline : tie.Need-shared-slice-read-is-inline
 shared-slice-read-is-inline c = search needs
@@ -57,17 +48,14 @@ both-requires-2 : tie.Need-both-requires-2
 both-requires-2 c κs = search needs
 
 returns : tie.Need-returns
-returns c = phase-inlines _ (λ i. c .before .before .before .before .before .before .before .before .before .before .before .before .shared-slice-known .given i .fits) _ _ _ _ _ _ (c .before .before .before .before .before .before .before .before .before .before .before .before .before .pre .1) (c .before .before .before .before .before .before .before .before .before .pair .ensures) (c .before .before .before .before .is-inline .ensures) (c .before .before .before .is-clear .ensures) (c .before .before .is-clear2 .ensures) (c .before .both .ensures) (c .both2 .ensures)
+returns c = phase-inlines _ (λ i. c .before .before .before .before .before .before .before .before .before .before .shared-slice-known .given i .fits) _ _ _ _ _ _ (c .before .before .before .before .before .before .before .before .before .before .before .pre .1) (c .before .before .before .before .before .before .before .before .before .pair-at .ensures) (c .before .before .before .before .is-inline .ensures) (c .before .before .before .is-clear .ensures) (c .before .before .is-clear2 .ensures) (c .before .both .ensures) (c .both2 .ensures)
 
 pub is-inline-phase-spec : {M : Type 1} → statement M
 is-inline-phase-spec =
     tie.close
     (tie.spec
-    add-pair
-    shared-slice-read-pair
-    add-pair-2
-    shared-slice-read-pair-2
-    pair-requires
+    add-pair-at
+    pair-at-requires
     shared-slice-read-is-inline
     add-is-inline
     shared-slice-read-is-inline-2

@@ -8,9 +8,6 @@ use Rattle.record.proofs.checking.is_panel.Tie as tie
 is-serial-requires : tie.Need-is-serial-requires
 is-serial-requires c κs = search needs
 
-shared-slice-read-is-flag : tie.Need-shared-slice-read-is-flag
-shared-slice-read-is-flag c = search needs
-
 is-flag-requires : tie.Need-is-flag-requires
 is-flag-requires c κs = search needs
 
@@ -24,14 +21,13 @@ both-requires-2 : tie.Need-both-requires-2
 both-requires-2 c κs = search needs
 
 returns : tie.Need-returns
-returns c = panel-holds _ (c .before .before .before .before .before .before .before .args .r .now) _ _ _ _ _ (c .before .are-graphs .ensures) (c .before .before .before .before .before .is-serial .ensures) (c .before .before .before .is-flag .ensures) (c .before .before .both .ensures) (c .both2 .ensures)
+returns c = panel-holds _ (c .before .before .before .before .before .before .args .r .now) _ _ _ _ _ (c .before .are-graphs .ensures) (c .before .before .before .before .is-serial .ensures) (c .before .before .before .is-flag .ensures) (c .before .before .both .ensures) (c .both2 .ensures)
 
 pub is-panel-spec : {M : Type 1} → statement M
 is-panel-spec =
     tie.close
     (tie.spec
     is-serial-requires
-    shared-slice-read-is-flag
     is-flag-requires
     both-requires
     are-graphs-requires
