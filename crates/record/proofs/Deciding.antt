@@ -1,49 +1,187 @@
--- One law for each way through `is_record`.
+-- A record is accepted exactly when each of its parts is.
 -- Assumes nothing.
-use mathlib.Core.Path.{_≡_, refl, _∙_}
-use mathlib.Core.Bool.{Bool, true, false, not, _&&_}
-use mathlib.Core.List.{List}
-use Prim.Native.Nat.{ℕ}
-use lib.Dec.{eqb}
-use lib.ListN.{length, drop}
-use borrow.Author.Tests.{eq-eqb, ne-eqb, not-true, not-false}
-use Rattle.state.specs.declared.State.{State}
-use Rattle.state.specs.Soundness.{soundState, thresholdsFit}
-use Rattle.state.specs.Canonical.{canonicalState}
-use Rattle.record.specs.Reading.{slotOf, stripOf, portOf, panelOf, decodeOf}
-use Rattle.record.specs.Writing.{encodeOf}
-use Rattle.record.specs.Record.{encodedIn, sameBytes, soundRecord}
+use mathlib.Core.Path.{_≡_, refl, sym, ap, _∙_}
+use mathlib.Core.Bool.{Bool, true, false, _&&_, _||_, and-assoc, and-true, and-false}
+use mathlib.Core.List.{List, _∷_, _++_}
+use Prim.Native.Nat.{ℕ, zero, suc, _+_}
+use native.Mathlib.Omega.{arith}
+use lib.Dec.{eqb, ltb}
+use lib.ListN.{length, drop, replicate}
+use lib.Seq.{drop-drop, getD-drop}
+use borrow.Author.Tests.{eq-eqb, ne-eqb}
+use Rattle.queue.specs.Record.{at, bit, bytesFrom}
+use Rattle.state.specs.Soundness.{every, soundPhase, soundText, soundPort, thresholdsFit, soundBar, soundStrip, soundPanel, soundState}
+use Rattle.state.specs.Canonical.{canonicalPhase, canonicalArguments, canonicalPort, canonicalBar, canonicalStrip, canonicalSerial, canonicalPanel, canonicalState}
+use Rattle.record.specs.Reading.{manyOf, flagAt, phaseOf, argumentsIn, textOf, flowOf, portOf, slotOf, stripOf, panelOf, decodeOf}
+use Rattle.record.specs.Writing.{manyBytes, gatheringBytes, dataBytes, uploadBytes, textBytes, otherBytes, phaseBytes, portBytes, slotBytes, stripBytes, lastBytes, panelBytes, encodeOf}
+use Rattle.record.specs.Parts.{stands, clear, everyOf, phaseStands, phaseHolds, textHolds, otherHolds, portHolds, slotHolds, stripHolds, panelHolds}
+use Rattle.record.specs.Record.{sameBytes, soundRecord}
 use Rattle.record.proofs.Filling.{length-many}
-use Rattle.record.proofs.Whole.{Sized, written-whole}
+use Rattle.record.proofs.Whole.{Sized, length-gathering, length-data, length-phase, length-port, length-bars, length-strips, length-sized}
+use Rattle.record.proofs.Standing.{stands-next, stands-drop, stands-front, stands-read, stands-same}
+use Rattle.record.proofs.Testing.{flag-or-clear, flags-both, arguments-are}
+
+panel-bars : (l : List ℕ) → length (panelOf l .bars) ≡ 16
+unfolding panelOf
+panel-bars l = length-many slotOf 7 l 16
+
+panel-strips : (l : List ℕ) → length (panelOf l .strips) ≡ 8
+unfolding panelOf
+panel-strips l = length-many stripOf 5 (drop 112 l) 8
 
 pub decoded-sized : (r : List ℕ) → Sized (decodeOf r)
-unfolding decodeOf portOf panelOf
-decoded-sized r = record { args = refl; bars = length-many slotOf 7 (drop 43 r) 16; strips = length-many stripOf 5 (drop 112 (drop 43 r)) 8 }
+unfolding decodeOf portOf
+decoded-sized r = record { args = refl; bars = panel-bars (drop 43 r); strips = panel-strips (drop 43 r) }
+
+swap : (a b c d : Bool) → ((a && b) && (c && d)) ≡ ((a && c) && (b && d))
+swap true true c d = refl
+swap true false c d = sym (and-false c)
+swap false b c d = refl
+
+-- ---- the port
+
+-- sound, canonical and written are asked of each part: a phase, g its tag, e its arguments, x what it holds; b and v text; c and w the rest
+port-parts : (a b c d e g x v w : Bool) → ((a && b && c && (d && e)) && ((g && x) && (v && w))) ≡ ((a && d && (g && (e && x))) && ((b && v) && (c && w)))
+port-parts false b c d e g x v w = refl
+port-parts true b c false e g x v w = rw (and-false (b && c))
+port-parts true b c true e false x v w = and-false (b && c && e)
+port-parts true b c true false true x v w = rw (and-false (b && c))
+port-parts true b c true true true false v w = and-false (b && c && true)
+port-parts true b c true true true true v w = rw (and-true (b && c)) (swap b c v w)
+
+module _ (r : List ℕ) where
+  arguments-stand : stands (argumentsIn (drop 3 r)) 3 r ≡ true
+  arguments-stand = ap (λ (l : List ℕ). stands l 3 r) (arguments-are r) ∙ stands-read r 3 6
+
+  phase-written : stands (phaseBytes (portOf r)) 0 r ≡ (stands (gatheringBytes (phaseOf r)) 0 r && (stands (dataBytes (phaseOf r)) 9 r && stands (uploadBytes (phaseOf r)) 15 r))
+  unfolding phaseBytes portOf
+  phase-written =
+      stands-next (gatheringBytes (phaseOf r)) _ 0 3 r (length-gathering (phaseOf r))
+      ∙ ap (λ (t : Bool). stands (gatheringBytes (phaseOf r)) 0 r && t)
+      (stands-next (argumentsIn (drop 3 r)) _ 3 6 r refl
+      ∙ rw arguments-stand (stands-next (dataBytes (phaseOf r)) (uploadBytes (phaseOf r)) 9 6 r (length-data (phaseOf r))))
+
+  port-written : stands (portBytes (portOf r)) 0 r
+      ≡ (stands (phaseBytes (portOf r)) 0 r && (stands (textBytes (textOf (drop 23 r))) 23 r && stands (otherBytes (portOf r)) 34 r))
+  unfolding portBytes portOf
+  port-written =
+      stands-next (phaseBytes (portOf r)) _ 0 23 r (length-phase (portOf r) refl)
+      ∙ ap (λ (t : Bool). stands (phaseBytes (portOf r)) 0 r && t) (stands-next (textBytes (textOf (drop 23 r))) (otherBytes (portOf r)) 23 11 r refl)
+
+  port-is : portHolds r ≡ (phaseHolds r && (textHolds r && otherHolds r))
+  unfolding portHolds phaseStands textHolds otherHolds soundPort canonicalPort portOf
+  port-is =
+      let p = phaseOf r in
+      let t = textOf (drop 23 r) in
+      ap (λ (x : Bool). soundPort (portOf r) && thresholdsFit (portOf r .flow) && canonicalPort (portOf r) && x)
+      (port-written ∙ ap (λ (x : Bool). x && (stands (textBytes t) 23 r && stands (otherBytes (portOf r)) 34 r)) phase-written)
+      ∙ port-parts (soundPhase p) (soundText t) (thresholdsFit (flowOf (drop 37 r))) (canonicalPhase p) (canonicalArguments p (argumentsIn (drop 3 r))) (stands (gatheringBytes p) 0 r)
+      (stands (dataBytes p) 9 r && stands (uploadBytes p) 15 r) (stands (textBytes t) 23 r) (stands (otherBytes (portOf r)) 34 r)
+
+  pub port-holds : (p t o w b : Bool) → p ≡ phaseHolds r → t ≡ textHolds r → o ≡ otherHolds r → w ≡ (t && o) → b ≡ (p && w) → b ≡ portHolds r
+  port-holds p t o w b ep et eo ew eb = eb ∙ rw (ew, eo, et, ep) (sym port-is)
+
+-- ---- the panel
+
+module _ {A : Type 0} (one : List ℕ → A) (bytes : A → List ℕ) (size : ℕ) (fit : (a : A) → length (bytes a) ≡ size) (f g : A → Bool) (test : List ℕ → Bool)
+    (e : (l : List ℕ) → (f (one l) && g (one l) && stands (bytes (one l)) 0 l) ≡ test l) where
+  many-hold : (n : ℕ) (l : List ℕ) → (every f (manyOf one size l n) && every g (manyOf one size l n) && stands (manyBytes bytes (manyOf one size l n)) 0 l) ≡ everyOf test size l n
+  unfolding every manyOf manyBytes everyOf stands
+  many-hold zero l = refl
+  many-hold (suc n) l =
+      let m = manyOf one size (drop size l) n in
+      let a = one l in
+      let z : 0 + size ≡ size = omega arith in
+      let s : stands (bytes a ++ manyBytes bytes m) 0 l ≡ (stands (bytes a) 0 l && stands (manyBytes bytes m) 0 (drop size l)) =
+      stands-next (bytes a) (manyBytes bytes m) 0 size l (fit a) ∙ ap (λ (k : ℕ). stands (bytes a) 0 l && stands (manyBytes bytes m) k l) z
+      ∙ ap (λ (t : Bool). stands (bytes a) 0 l && t) (sym (stands-front (manyBytes bytes m) size l)) in
+      ap (λ (t : Bool). (f a && every f m) && (g a && every g m) && t) s
+      ∙ ap (λ (t : Bool). t && (stands (bytes a) 0 l && stands (manyBytes bytes m) 0 (drop size l))) (swap (f a) (every f m) (g a) (every g m))
+      ∙ swap (f a && g a) (every f m && every g m) (stands (bytes a) 0 l) (stands (manyBytes bytes m) 0 (drop size l))
+      ∙ ap (λ (t : Bool). t && (every f m && every g m && stands (manyBytes bytes m) 0 (drop size l))) (e l)
+      ∙ ap (λ (t : Bool). test l && t) (many-hold n (drop size l))
+
+-- a, c and u the bars; b, d and v the strips; k and w the serial number and what follows it
+panel-parts : (a b c d k u v w : Bool) → ((a && b && (c && d && k)) && (u && (v && w))) ≡ (((a && c && u) && (b && d && v)) && (k && w))
+panel-parts a b c d false u v w = rw (and-false (c && d), and-false (a && b)) (sym (and-false ((a && c && u) && (b && d && v))))
+panel-parts a b c d true u v w =
+    rw (and-true (c && d), swap a b c d, swap (a && c) (b && d) u (v && w), ← and-assoc (b && d) v w) (sym (and-assoc (a && c && u) (b && d && v) w))
+
+module _ (h : ℕ) (l : List ℕ) where
+  panel-written : stands (panelBytes (panelOf l)) 0 l
+      ≡ (stands (manyBytes slotBytes (panelOf l .bars)) 0 l && (stands (manyBytes stripBytes (panelOf l .strips)) 0 (drop 112 l) && stands (lastBytes (panelOf l)) 152 l))
+  unfolding panelBytes
+  panel-written =
+      stands-next (manyBytes slotBytes (panelOf l .bars)) _ 0 112 l (length-bars (panelOf l) (panel-bars l))
+      ∙ ap (λ (t : Bool). stands (manyBytes slotBytes (panelOf l .bars)) 0 l && t)
+      (stands-next (manyBytes stripBytes (panelOf l .strips)) (lastBytes (panelOf l)) 112 40 l (length-strips (panelOf l) (panel-strips l))
+      ∙ ap (λ (t : Bool). t && stands (lastBytes (panelOf l)) 152 l) (sym (stands-front (manyBytes stripBytes (panelOf l .strips)) 112 l)))
+
+  last-plain : lastBytes (panelOf l) ≡ bit (flagAt l 152) ∷ (bytesFrom l 153 3 ++ (bit (flagAt l 156) ∷ bytesFrom l 157 1))
+  unfolding panelOf bytesFrom
+  last-plain = simp getD-drop
+
+  serial-is : canonicalSerial (panelOf l .serial) ≡ (flagAt l 152 || clear 153 2 l)
+  unfolding panelOf canonicalSerial every stands
+  serial-is = simp getD-drop
+
+  last-is : (canonicalSerial (panelOf l .serial) && stands (lastBytes (panelOf l)) 152 l) ≡ ((flagAt l 152 || clear 152 3 l) && ltb (at l 156) 2)
+  unfolding stands
+  last-is =
+      ap (λ (t : Bool). t && stands (lastBytes (panelOf l)) 152 l) serial-is
+      ∙ ap (λ (t : Bool). (flagAt l 152 || clear 153 2 l) && t) (ap (λ (m : List ℕ). stands m 152 l) last-plain ∙ flags-both l 152 3 1)
+      ∙ sym (and-assoc (flagAt l 152 || clear 153 2 l) (ltb (at l 152) 2) (ltb (at l 156) 2))
+      ∙ ap (λ (t : Bool). t && ltb (at l 156) 2) (flag-or-clear (at l 152) (clear 153 2 l))
+
+  bars-are : (every (soundBar h) (panelOf l .bars) && every canonicalBar (panelOf l .bars) && stands (manyBytes slotBytes (panelOf l .bars)) 0 l) ≡ everyOf (slotHolds h) 7 l 16
+  unfolding panelOf slotHolds
+  bars-are = many-hold slotOf slotBytes 7 (λ a. refl) (soundBar h) canonicalBar (slotHolds h) (λ m. refl) 16 l
+
+  strips-are : (every (soundStrip h) (panelOf l .strips) && every canonicalStrip (panelOf l .strips) && stands (manyBytes stripBytes (panelOf l .strips)) 0 (drop 112 l))
+      ≡ everyOf (stripHolds h) 5 (drop 112 l) 8
+  unfolding panelOf stripHolds
+  strips-are = many-hold stripOf stripBytes 5 (λ a. refl) (soundStrip h) canonicalStrip (stripHolds h) (λ m. refl) 8 (drop 112 l)
+
+  panel-is : panelHolds h l ≡ ((everyOf (slotHolds h) 7 l 16 && everyOf (stripHolds h) 5 (drop 112 l) 8) && ((flagAt l 152 || clear 152 3 l) && ltb (at l 156) 2))
+  unfolding panelHolds soundPanel canonicalPanel
+  panel-is =
+      let q = panelOf l in
+      ap (λ (t : Bool). soundPanel h q && canonicalPanel q && t) panel-written
+      ∙ panel-parts (every (soundBar h) (q .bars)) (every (soundStrip h) (q .strips)) (every canonicalBar (q .bars)) (every canonicalStrip (q .strips)) (canonicalSerial (q .serial))
+      (stands (manyBytes slotBytes (q .bars)) 0 l) (stands (manyBytes stripBytes (q .strips)) 0 (drop 112 l)) (stands (lastBytes q) 152 l)
+      ∙ rw (bars-are, strips-are, last-is)
+
+pub panel-holds : (h : ℕ) (r : List ℕ) (g s f w t : Bool) → g ≡ (everyOf (slotHolds h) 7 (drop 43 r) 16 && everyOf (stripHolds h) 5 (drop 155 r) 8)
+    → s ≡ (eqb (at r 195) 1 || clear 195 3 r) → f ≡ ltb (at r 199) 2 → w ≡ (s && f) → t ≡ (g && w) → t ≡ panelHolds h (drop 43 r)
+panel-holds h r g s f w t eg es ef ew et =
+    et
+    ∙ rw (ew, ef, es, eg, panel-is h (drop 43 r), drop-drop 112 43 r, getD-drop 43 r 152 0, getD-drop 43 r 156 0, stands-drop (replicate 3 0) 43 152 r)
+
+-- ---- all of it
+
+-- a and d and u the port, c its thresholds; b, e and v the panel
+record-parts : (a b c d e u v : Bool) → ((a && b && c && (d && e)) && (u && v)) ≡ ((a && c && d && u) && (b && e && v))
+record-parts a b false d e u v = rw (and-false (a && b), and-false a)
+record-parts a b true d e u v = rw (and-true (a && b), and-true a, swap a b d e) (swap (a && d) (b && e) u v)
 
 module _ (h : ℕ) (r : List ℕ) where
-  -- what is asked of its state, at once
-  together : (a b c d e : Bool) → (a && b && c && d && e) ≡ (a && (b && c && d) && e)
-  together true b c d e = refl
-  together false b c d e = refl
-
-  fine : State → Bool
-  fine s = soundState h s && thresholdsFit (s .port .flow) && canonicalState s
-
-  asked : soundRecord h r ≡ (eqb (length r) 201 && fine (decodeOf r) && sameBytes (encodeOf (decodeOf r)) r)
-  unfolding soundRecord fine
-  asked = together (eqb (length r) 201) (soundState h (decodeOf r)) (thresholdsFit (decodeOf r .port .flow)) (canonicalState (decodeOf r)) (sameBytes (encodeOf (decodeOf r)) r)
-
   pub record-size : (length r ≡ 201 → ⊥) → false ≡ soundRecord h r
-  record-size n = rw (asked, ne-eqb (length r) 201 n)
+  unfolding soundRecord
+  record-size n = rw (ne-eqb (length r) 201 n)
 
-  module _ (s : State) (b : Bool) (e : length r ≡ 201) (d : s ≡ decodeOf r)
-      (f : b ≡ (soundState h s && thresholdsFit (s .port .flow) && canonicalState s)) where
-    pub record-unsound : not b ≡ true → false ≡ soundRecord h r
-    unfolding fine
-    record-unsound n = rw (asked, eq-eqb (length r) 201 e, ← d, ← f, not-true b n)
+  written-again : length r ≡ 201 → sameBytes (encodeOf (decodeOf r)) r ≡ (stands (portBytes (portOf r)) 0 r && stands (panelBytes (panelOf (drop 43 r))) 0 (drop 43 r))
+  unfolding encodeOf decodeOf
+  written-again n =
+      stands-same (encodeOf (decodeOf r)) r (length-sized (decodeOf r) (decoded-sized r) ∙ sym n)
+      ∙ stands-next (portBytes (portOf r)) (panelBytes (panelOf (drop 43 r))) 0 43 r (length-port (portOf r) (decoded-sized r .args))
+      ∙ ap (λ (t : Bool). stands (portBytes (portOf r)) 0 r && t) (sym (stands-front (panelBytes (panelOf (drop 43 r))) 43 r))
 
-    pub record-again : (g z : List ℕ) (t : Bool) → not b ≡ false → length z ≡ 201 → g ≡ encodedIn s z → t ≡ sameBytes g r → t ≡ soundRecord h r
-    unfolding fine
-    record-again g z t n l w k =
-        let i : g ≡ encodeOf s = w ∙ written-whole s z (rw d (decoded-sized r)) l in
-        k ∙ rw (asked, eq-eqb (length r) 201 e, ← d, ← f, not-false b n, i)
+  pub record-is : (p q t : Bool) → length r ≡ 201 → p ≡ portHolds r → q ≡ panelHolds h (drop 43 r) → t ≡ (p && q) → t ≡ soundRecord h r
+  unfolding soundRecord decodeOf soundState canonicalState portHolds panelHolds
+  record-is p q t n ep eq et =
+      let a = portOf r in
+      let b = panelOf (drop 43 r) in
+      let m = drop 43 r in
+      et ∙ rw (eq, ep, eq-eqb (length r) 201 n)
+      (sym (ap (λ (x : Bool). soundState h (decodeOf r) && thresholdsFit (a .flow) && canonicalState (decodeOf r) && x) (written-again n)
+      ∙ record-parts (soundPort a) (soundPanel h b) (thresholdsFit (a .flow)) (canonicalPort a) (canonicalPanel b) (stands (portBytes a) 0 r) (stands (panelBytes b) 0 m)))

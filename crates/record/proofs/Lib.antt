@@ -3,7 +3,9 @@ pub mod Filling
 pub mod Overwriting
 pub mod Ways
 pub mod Same
+pub mod Standing
 pub mod Whole
+pub mod Testing
 pub mod Deciding
 pub mod Back
 pub mod Bytes

@@ -1,5 +1,6 @@
 pub mod Layout
 pub mod Reading
 pub mod Writing
+pub mod Parts
 pub mod Record
 pub mod Fits

@@ -1,20 +1,21 @@
 // The state as the record of 201 bytes that a caller keeps.
+mod checking;
 mod reading;
 mod writing;
 
+use checking::both;
+use checking::is_panel;
+use checking::is_port;
 use queue::Flow;
 pub use reading::decode_port;
 use reading::flow_of;
 use reading::panel_of;
 use state::State;
-use state::is_well_formed;
 use writing::encode_panel;
 pub use writing::encode_port;
 ghost use mathlib.Core.Path.{_≡_};
-ghost use mathlib.Core.Bool.{_&&_};
-ghost use lib.ListN.{length};
 ghost use Rattle.record.specs.Reading.{decodeOf};
-ghost use Rattle.record.specs.Record.{encodedIn, sameBytes, soundRecord};
+ghost use Rattle.record.specs.Record.{encodedIn, soundRecord};
 
 // Where the parts stand. The phase: 0 idle, 1 prefix, 2 gathering, 3 in line, 4 upload.
 pub const PHASE: usize = 0;
@@ -102,26 +103,6 @@ pub fn encode(s: State, out: &mut [u8])
     encode_panel(panel, out);
 }
 
-fn both(a: bool, b: bool) -> bool
-    ensures { λ r. ⌜ r ≡ (a && b) ⌝ }
-{
-    if a { b } else { false }
-}
-
-// To the end, whatever differs: a loop with one way out is done many bytes at a time.
-fn is_same(a: [u8; RECORD], r: &[u8]) -> bool
-    requires { ⌜ length (now r) ≡ 201 ⌝ }
-    ensures { λ b. ⌜ b ≡ sameBytes a (now (r .entry)) ⌝ }
-{
-    let mut same = true;
-    let mut k = 0;
-    while k < RECORD {
-        same = both(same, a[k] == r[k]);
-        k += 1;
-    }
-    same
-}
-
 // Whether it is the record of a sound state, on a framebuffer of `height` rows, with thresholds below 80 and as the layout has it.
 pub fn is_record(r: &[u8], height: u8) -> bool
     ensures { λ b. ⌜ b ≡ soundRecord height (now (r .entry)) ⌝ }
@@ -129,11 +110,5 @@ pub fn is_record(r: &[u8], height: u8) -> bool
     if r.len() != RECORD {
         return false;
     }
-    let s = decode(r);
-    if !is_well_formed(s, height) {
-        return false;
-    }
-    let mut again = [0; RECORD];
-    encode(s, &mut again);
-    is_same(again, r)
+    both(is_port(r), is_panel(r, height))
 }

@@ -43,14 +43,14 @@ ghost use Rattle.record.specs.Reading.{slotOf, stripOf, serialOf, backli
 // Bytes of the longest part.
 const LONGEST: usize = 11;
 
-fn word(x: u8) -> u16
+pub fn word(x: u8) -> u16
     ensures { λ r. ⌜ (r ≡ x) × (r < 256) ⌝ }
 {
     x as u16
 }
 
 // A number of two bytes.
-fn pair(low: u8, high: u8) -> u16
+pub fn pair(low: u8, high: u8) -> u16
     ensures { λ r. ⌜ r ≡ low + 256 * high ⌝ }
 {
     word(low) + 256 * word(high)

@@ -4,19 +4,17 @@ mod initial;
 
 use bar_graph::Bar;
 use canvas::Colour;
-use checks::are_thresholds;
-use checks::both;
+pub use checks::are_corners_sound;
 pub use checks::inline_bytes;
-use checks::is_panel;
-use checks::is_port;
+pub use checks::is_gathering;
+pub use checks::is_inline;
+pub use checks::is_set_up_sound;
+pub use checks::is_upload;
 pub use initial::start_state;
 pub use initial::start_text;
 use queue::Flow;
 ghost use mathlib.Core.Path.{_≡_};
-ghost use mathlib.Core.Bool.{_&&_};
 ghost use Rattle.state.specs.Commands.{commandOf, argumentsOf};
-ghost use Rattle.state.specs.Soundness.{soundState, thresholdsFit};
-ghost use Rattle.state.specs.Canonical.{canonicalState};
 
 pub enum Command {
     Unknown,
@@ -242,15 +240,4 @@ pub struct Panel {
 pub struct State {
     pub port: Port,
     pub panel: Panel,
-}
-
-// Whether a state is sound, on a framebuffer of `height` rows, with thresholds below 80 and as the record's layout has it.
-pub fn is_well_formed(s: State, height: u8) -> bool
-    ensures { λ r. ⌜ r ≡ (soundState height s && thresholdsFit (s .port .flow) && canonicalState s) ⌝ }
-{
-    let port = s.port;
-    let panel = s.panel;
-    let flow = port.flow;
-    let parts = both(is_port(port), is_panel(panel, height));
-    both(parts, are_thresholds(flow))
 }
