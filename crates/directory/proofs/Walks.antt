@@ -2,18 +2,21 @@
 -- Assumes nothing.
 use mathlib.Core.Path.{_≡_, refl, sym, ap, _∙_}
 use mathlib.Core.List.{List, [], _∷_, _++_}
-use mathlib.Core.Bool.{Bool, true, false, cond, _&&_, _||_, not}
-use Prim.Native.Nat.{ℕ, zero, suc, _+_, _-_, _*_, _≤_, _<_}
+use mathlib.Core.Bool.{Bool, true, false, cond, _&&_, _||_, not, and-true, and-false, and-assoc}
+use Prim.Native.Nat.{ℕ, zero, suc, _+_, _-_, _*_, _/_, _%_, _^_, _≤_, _<_}
 use native.Mathlib.Omega.{arith}
-use lib.ListN.{length, getD}
+use lib.ListN.{length, getD, replicate, length-set}
 use lib.Dec.{ltb, leb, eqb}
-use borrow.Author.Tests.{eq-eqb, ne-eqb, le-leb, lt-leb, leb-true, eqb-true, eqb-false}
+use lib.Bits.{bitOr, or-zero-l, or-add-and, and-le-r}
+use borrow.Author.Tests.{eq-eqb, ne-eqb, le-leb, lt-leb}
+use Rattle.pixels.specs.Framebuffer.{bitOf}
 use Rattle.directory.specs.declared.Entry.{Entry}
 use Rattle.directory.specs.declared.Totals.{Totals}
 use Rattle.directory.specs.declared.Found.{Found}
 use Rattle.directory.specs.declared.Found.the-variants.{At, Nothing}
 use Rattle.directory.specs.Directory.{lengthOf, stepAt, entryAt, entriesFrom, entries, bytesIn, sizesIn, totalsOf, isFile, hasFile, findIn, findOf, isFair, keepRules, zeros, zerosFrom, validOf}
 use Rattle.directory.proofs.Laws.{Stands, stands, none, more, kind-length}
+use Rattle.directory.proofs.Seen.{mark, slot, fresh, fresh-all, fresh-mark, file-numbered}
 
 -- Sums.
 
@@ -85,101 +88,105 @@ finding-more s k m p a n d b w e h f l g t =
       rest = rw (more s p n d e h f, ← g, t, kind-length s p n d e h f) at (w .rest);
     }
 
--- Is there one.
+-- Bytes that are 0: `all` has every bit of those before p.
 
-pub record Having (s : List ℕ) (o k m p : ℕ) : Type 0 where
-  pub within : p ≤ 256
-  pub rest : hasFile (entriesFrom p s) k m ≡ hasFile (entriesFrom o s) k m
+pub record Zeroing (s : List ℕ) (o p all : ℕ) : Type 0 where
+  pub rest : (eqb all 0 && zerosFrom p s) ≡ zerosFrom o s
 
-pub having-start : (s : List ℕ) (o k m : ℕ) → o ≤ 256 → Having s o k m o
-having-start s o k m h = record { within = h; rest = refl }
-
-pub having-none : (s : List ℕ) (o k m p n : ℕ) → Having s o k m p → n ≡ stepAt s p → n ≡ 0 → false ≡ hasFile (entriesFrom o s) k m
-unfolding hasFile
-having-none s o k m p n w e h = rw (none s p n e h) at (w .rest)
-
-pub having-here : (s : List ℕ) (o k m p n : ℕ) (d : Entry) (b : Bool) → Having s o k m p → n ≡ stepAt s p → (n ≡ 0 → ⊥) → d ≡ entryAt s p → b ≡ isFile d k m → b ≡ true → true ≡ hasFile (entriesFrom o s) k m
-unfolding hasFile
-having-here s o k m p n d b w e h f g t = rw (more s p n d e h f, ← g, t) at (w .rest)
-
-pub having-more : (s : List ℕ) (o k m p n : ℕ) (d : Entry) (b : Bool) → Having s o k m p → n ≡ stepAt s p → (n ≡ 0 → ⊥) → d ≡ entryAt s p → b ≡ isFile d k m → b ≡ false → Having s o k m (p + n)
-unfolding hasFile
-having-more s o k m p n d b w e h f g t =
-    let q = stands s p n e h in
-    record { within = omega (arith, q .fits); rest = rw (more s p n d e h f, ← g, t) at (w .rest) }
-
--- The rules of each record.
-
-pub record Ruling (s : List ℕ) (p : ℕ) : Type 0 where
-  pub within : p ≤ 256
-  pub rest : keepRules (entriesFrom p s) ≡ keepRules (entries s)
-
-pub ruling-start : (s : List ℕ) → Ruling s 0
-ruling-start s = record { within = omega arith; rest = refl }
-
-pub ruling-end : (s : List ℕ) (p n : ℕ) → Ruling s p → n ≡ stepAt s p → n ≡ 0 → true ≡ keepRules (entries s)
-unfolding keepRules
-ruling-end s p n w e h = rw (none s p n e h) at (w .rest)
-
-pub ruling-unfair : (s : List ℕ) (p n : ℕ) (d : Entry) (b : Bool) → Ruling s p → n ≡ stepAt s p → (n ≡ 0 → ⊥) → d ≡ entryAt s p → b ≡ isFair d → b ≡ false → false ≡ keepRules (entries s)
-unfolding keepRules
-ruling-unfair s p n d b w e h f g t = rw (more s p n d e h f, ← g, t) at (w .rest)
-
-pub ruling-twice : (s : List ℕ) (p n : ℕ) (d : Entry) (b h' : Bool) → Ruling s p → n ≡ stepAt s p → (n ≡ 0 → ⊥) → d ≡ entryAt s p → b ≡ isFair d → b ≡ true → h' ≡ hasFile (entriesFrom (p + n) s) (d .kind) (d .number) → h' ≡ true → false ≡ keepRules (entries s)
-unfolding keepRules
-ruling-twice s p n d b h' w e h f g t i j = rw (more s p n d e h f, ← g, t, ← i, j) at (w .rest)
-
-pub ruling-more : (s : List ℕ) (p n : ℕ) (d : Entry) (b h' : Bool) → Ruling s p → n ≡ stepAt s p → (n ≡ 0 → ⊥) → d ≡ entryAt s p → b ≡ isFair d → b ≡ true → h' ≡ hasFile (entriesFrom (p + n) s) (d .kind) (d .number) → h' ≡ false → Ruling s (p + n)
-unfolding keepRules
-ruling-more s p n d b h' w e h f g t i j =
-    let q = stands s p n e h in
-    record { within = omega (arith, q .fits); rest = rw (more s p n d e h f, ← g, t, ← i, j) at (w .rest) }
-
--- Bytes that are 0.
-
-pub record Zeroing (s : List ℕ) (o p : ℕ) : Type 0 where
-  pub rest : zerosFrom p s ≡ zerosFrom o s
-
-pub zeros-past : (s : List ℕ) (p : ℕ) → 256 ≤ p → zerosFrom p s ≡ true
+zeros-past : (s : List ℕ) (p : ℕ) → 256 ≤ p → zerosFrom p s ≡ true
 unfolding zerosFrom zeros
 zeros-past s p h = let e : 256 - p ≡ 0 = omega arith in rw e
 
-pub zeros-more : (s : List ℕ) (p : ℕ) → p < 256 → zerosFrom p s ≡ (eqb (getD s p 0) 0 && zerosFrom (p + 1) s)
+zeros-more : (s : List ℕ) (p : ℕ) → p < 256 → zerosFrom p s ≡ (eqb (getD s p 0) 0 && zerosFrom (p + 1) s)
 unfolding zerosFrom zeros
 zeros-more s p h = let e : 256 - p ≡ suc (256 - (p + 1)) = omega arith in rw e
 
-pub zeroing-start : (s : List ℕ) (o : ℕ) → Zeroing s o o
+or-none : (a b : ℕ) → eqb (bitOr a b) 0 ≡ (eqb a 0 && eqb b 0)
+or-none zero b = rw (or-zero-l b)
+or-none (suc a) b = ne-eqb (bitOr (suc a) b) 0 (omega (arith, or-add-and (suc a) b, and-le-r (suc a) b)) ∙ rw (ne-eqb (suc a) 0 (omega arith))
+
+pub zeroing-start : (s : List ℕ) (o : ℕ) → Zeroing s o o 0
 zeroing-start s o = record { rest = refl }
 
-pub zeroing-end : (s : List ℕ) (o p : ℕ) → Zeroing s o p → 256 ≤ p → true ≡ zerosFrom o s
-zeroing-end s o p w h = sym (zeros-past s p h) ∙ w .rest
+pub zeroing-end : (s : List ℕ) (o p a : ℕ) → Zeroing s o p a → 256 ≤ p → eqb a 0 ≡ zerosFrom o s
+zeroing-end s o p a w h = sym (and-true (eqb a 0)) ∙ rw (zeros-past s p h) at (w .rest)
 
-pub zeroing-stop : (s : List ℕ) (o p : ℕ) → Zeroing s o p → p < 256 → (getD s p 0 ≡ 0 → ⊥) → false ≡ zerosFrom o s
-zeroing-stop s o p w h n = rw (zeros-more s p h, ne-eqb (getD s p 0) 0 n) at (w .rest)
+pub zeroing-more : (s : List ℕ) (o p a : ℕ) → Zeroing s o p a → p < 256 → Zeroing s o (p + 1) (bitOr a (getD s p 0))
+zeroing-more s o p a w h = record { rest = rw (or-none a (getD s p 0), and-assoc (eqb a 0) (eqb (getD s p 0) 0) (zerosFrom (p + 1) s), ← zeros-more s p h) (w .rest) }
 
-pub zeroing-more : (s : List ℕ) (o p : ℕ) → Zeroing s o p → p < 256 → getD s p 0 ≡ 0 → Zeroing s o (p + 1)
-zeroing-more s o p w h n = record { rest = rw (zeros-more s p h, eq-eqb (getD s p 0) 0 n) at (w .rest) }
+-- A survey: what was counted, and the table of the files before p.
 
--- The whole.
+pub record Surveying (s t : List ℕ) (p count used : ℕ) : Type 0 where
+  pub counting : Counting s p count used
+  pub long : length t ≡ 64
+  pub rest : (keepRules (entriesFrom p s) && fresh t (entriesFrom p s)) ≡ keepRules (entries s)
 
-pub valid-zeros : (s : List ℕ) (t : Totals) (b : Bool) → t ≡ totalsOf (entries s) → b ≡ zerosFrom (t .end) s → b ≡ false → false ≡ validOf s
+pub survey-start : (s : List ℕ) → Surveying s (replicate 64 0) 0 0 0
+survey-start s =
+    record {
+      counting = counting-start s;
+      long = refl;
+      rest = rw (fresh-all 64 (entries s)) (and-true (keepRules (entries s)));
+    }
+
+broken : (s : List ℕ) → keepRules (entries s) ≡ false → false ≡ validOf s
 unfolding validOf
-valid-zeros s t b e f h = let g : zerosFrom (bytesIn (entries s)) s ≡ false = rw e at (sym f ∙ h) in rw g
+broken s e = rw (e, and-false (zerosFrom (bytesIn (entries s)) s && leb (length (entries s)) 63))
 
-pub valid-many : (s : List ℕ) (t : Totals) (b : Bool) → t ≡ totalsOf (entries s) → b ≡ zerosFrom (t .end) s → b ≡ true → 63 < t .count → false ≡ validOf s
+pub short : (s : List ℕ) → length s < 256 → false ≡ validOf s
 unfolding validOf
-valid-many s t b e f h k =
-    let g : zerosFrom (bytesIn (entries s)) s ≡ true = rw e at (sym f ∙ h) in
-    rw (g, lt-leb (length (entries s)) 63 (rw e at k))
+short s h =
+    rw (
+      lt-leb (256 + sizesIn (entries s)) (length s) (omega arith),
+      and-false (zerosFrom (bytesIn (entries s)) s && leb (length (entries s)) 63 && keepRules (entries s)),
+    )
 
-pub valid-rules : (s : List ℕ) (t : Totals) (b c : Bool) → t ≡ totalsOf (entries s) → b ≡ zerosFrom (t .end) s → b ≡ true → t .count ≤ 63 → c ≡ keepRules (entries s) → c ≡ false → false ≡ validOf s
-unfolding validOf
-valid-rules s t b c e f h k i j =
-    let g : zerosFrom (bytesIn (entries s)) s ≡ true = rw e at (sym f ∙ h) in
-    rw (g, le-leb (length (entries s)) 63 (rw e at k), sym i ∙ j)
+turned : (a b c : Bool) → (a && (b && c)) ≡ ((c && a) && b)
+turned true b true = and-true b
+turned true b false = and-false b
+turned false b true = refl
+turned false b false = refl
 
-pub valid-room : (s : List ℕ) (t : Totals) (b c : Bool) → t ≡ totalsOf (entries s) → b ≡ zerosFrom (t .end) s → b ≡ true → t .count ≤ 63 → c ≡ keepRules (entries s) → c ≡ true → leb (256 + t .used) (length s) ≡ validOf s
-unfolding validOf
-valid-room s t b c e f h k i j =
-    let g : zerosFrom (bytesIn (entries s)) s ≡ true = rw e at (sym f ∙ h) in
-    rw (g, le-leb (length (entries s)) 63 (rw e at k), sym i ∙ j, e)
+settled : (z c r : Bool) → ((c && r) && z) ≡ (((z && c) && true) && r)
+settled true true r = and-true r
+settled true false r = refl
+settled false true r = and-false r
+settled false false r = refl
+
+module _ (s t : List ℕ) (p c u n : ℕ) (w : Surveying s t p c u) (e : n ≡ stepAt s p) where
+  pub survey-end : (v : Bool) → n ≡ 0 → v ≡ (leb c 63 && leb (256 + u) (length s) && zerosFrom p s) → v ≡ validOf s
+  unfolding validOf keepRules fresh
+  survey-end v h f =
+      let m = counting-end s p c u n (w .counting) e h in
+      let k : true ≡ keepRules (entries s) = rw (none s p n e h) at (w .rest) in
+      f ∙ settled (zerosFrom p s) (leb c 63) (leb (256 + u) (length s))
+      ∙ ap (λ (x : Totals). zerosFrom (x .end) s && leb (x .count) 63 && true && leb (256 + x .used) (length s)) m
+      ∙ rw (← k)
+
+  module _ (h : n ≡ 0 → ⊥) (d : Entry) (f : d ≡ entryAt s p) (v : Bool) (g : v ≡ isFair d) where
+    pub survey-unfair : v ≡ false → false ≡ validOf s
+    unfolding keepRules
+    survey-unfair x = let r : false ≡ keepRules (entries s) = rw (more s p n d e h f, ← g, x) at (w .rest) in broken s (sym r)
+
+    module _ (x : v ≡ true) (i : ℕ) (j : i ≡ slot (d .kind) (d .number)) where
+      pub survey-twice : getD t (i / 8) 0 / 2 ^ (7 - i % 8) % 2 ≡ 1 → false ≡ validOf s
+      unfolding keepRules fresh bitOf
+      survey-twice y =
+          let m : fresh t (entriesFrom p s) ≡ false = rw (more s p n d e h f, ← j, eq-eqb (getD t (i / 8) 0 / 2 ^ (7 - i % 8) % 2) 1 y) in
+          let r : (keepRules (entriesFrom p s) && false) ≡ keepRules (entries s) = rw m at (w .rest) in
+          broken s (sym r ∙ and-false (keepRules (entriesFrom p s)))
+
+      pub survey-more : (getD t (i / 8) 0 / 2 ^ (7 - i % 8) % 2 ≡ 1 → ⊥) → ((k : ℕ) → getD s k 0 < 256) → d .size < 65536
+          → Surveying s (mark t i) (p + n) (c + 1) (u + d .size)
+      unfolding keepRules fresh bitOf
+      survey-more y b z =
+          let a = file-numbered s b p n d e h f in
+          let m : (not (hasFile (entriesFrom (p + n) s) (d .kind) (d .number)) && keepRules (entriesFrom (p + n) s) && fresh t (entriesFrom (p + n) s)) ≡ keepRules (entries s)
+          = rw (more s p n d e h f, ← g, x, ← j, ne-eqb (getD t (i / 8) 0 / 2 ^ (7 - i % 8) % 2) 1 y) at (w .rest) in
+          record {
+            counting = counting-more s p c u n d (w .counting) e h f z;
+            long = length-set t (i / 8) _ ∙ w .long;
+            rest =
+                rw (j, fresh-mark s b t (d .kind) (d .number) a (omega (arith, a .least, a .most, a .below, w .long)) (p + n))
+                (turned (keepRules (entriesFrom (p + n) s)) (fresh t (entriesFrom (p + n) s)) (not (hasFile (entriesFrom (p + n) s) (d .kind) (d .number))) ∙ m);
+          }

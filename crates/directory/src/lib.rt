@@ -1,8 +1,10 @@
 // The directory of the store: the records in its first 256 bytes, read. Any bytes may stand there, and any number of them.
 ghost use mathlib.Core.Path.{_≡_};
-ghost use Prim.Native.Nat.{_+_, _-_, _≤_, _<_, min};
-ghost use lib.ListN.{getD, take, drop};
-ghost use Rattle.directory.specs.Directory.{lengthOf, stepAt, entryAt, entries, entriesFrom, totalsOf, isFile, hasFile, findOf, isFair, keepRules, zerosFrom, validOf};
+ghost use mathlib.Core.Bool.{_&&_};
+ghost use Prim.Native.Nat.{_+_, _-_, _*_, _≤_, _<_, min};
+ghost use lib.Dec.{leb};
+ghost use lib.ListN.{length, getD, take, drop};
+ghost use Rattle.directory.specs.Directory.{lengthOf, stepAt, entryAt, entries, totalsOf, isFile, findOf, isFair, zerosFrom, validOf};
 
 // The directory's bytes; the file area lies behind them.
 pub const DIRECTORY: usize = 256;
@@ -16,6 +18,11 @@ pub const BITMAP: u8 = 2;
 
 // The font that is built in, and so in no directory.
 pub const BUILT_IN_FONT: u8 = 1;
+
+// Numbers of a kind, and the bytes of a table with a bit for each number of each of the two kinds.
+const NUMBERS: usize = 256;
+
+const SEEN: usize = 2 * NUMBERS / 8;
 
 pub struct Entry {
     pub kind: u8,
@@ -173,25 +180,6 @@ pub fn find(store: &[u8], kind: u8, number: u8) -> Found
     }
 }
 
-// Whether a record of this kind and number stands at byte `from` or later.
-fn has_file(store: &[u8], from: usize, kind: u8, number: u8) -> bool
-    requires { ⌜ from ≤ 256 ⌝ }
-    ensures { λ r. ⌜ r ≡ hasFile (entriesFrom from (now (store .entry))) kind number ⌝ }
-{
-    let mut p = from;
-    loop {
-        let n = step_at(store, p);
-        if n == 0 {
-            return false;
-        }
-        let e = entry_at(store, p);
-        if is_file(e, kind, number) {
-            return true;
-        }
-        p += n;
-    }
-}
-
 fn is_fair(e: Entry) -> bool
     ensures { λ r. ⌜ r ≡ isFair e ⌝ }
 {
@@ -201,53 +189,76 @@ fn is_fair(e: Entry) -> bool
     !is_file(e, FONT, BUILT_IN_FONT)
 }
 
-// Whether each record by itself keeps the rules, and none names a file of another.
-fn keep_rules(store: &[u8]) -> bool
-    ensures { λ r. ⌜ r ≡ keepRules (entries (now (store .entry))) ⌝ }
+// The number of the bit that stands for a file in the table.
+fn slot(e: Entry) -> usize
+    requires { ⌜ (1 ≤ e .kind) × (e .kind ≤ 2) ⌝ }
+    ensures { λ r. ⌜ (r ≡ 256 * (e .kind - 1) + e .number) × (r < 512) ⌝ }
 {
+    NUMBERS * (wide(e.kind) - 1) + wide(e.number)
+}
+
+// Whether every byte from number `from` to the directory's end is 0. No early way out, so that many are tested at once.
+fn zeros_from(store: &[u8], from: usize) -> bool
+    requires { ⌜ 256 ≤ length (now store) ⌝ }
+    ensures { λ r. ⌜ r ≡ zerosFrom from (now (store .entry)) ⌝ }
+{
+    let mut all = 0u8;
+    let mut p = from;
+    while p < DIRECTORY {
+        all = all | store[p];
+        p += 1;
+    }
+    all == 0
+}
+
+// Whether the directory may end so, its records by themselves being right.
+fn closes(store: &[u8], t: Totals) -> bool
+    requires { ⌜ (256 ≤ length (now store)) × (t .used ≤ 16777216) ⌝ }
+    ensures { λ r. ⌜ r ≡ (leb (t .count) 63 && leb (256 + t .used) (length (now (store .entry))) && zerosFrom (t .end) (now (store .entry))) ⌝ }
+{
+    if MAX_FILES < t.count {
+        return false;
+    }
+    if store.len() < DIRECTORY + t.used {
+        return false;
+    }
+    zeros_from(store, t.end)
+}
+
+// Whether the directory keeps its rules. One walk over the records, in which each file is marked in a table of those seen.
+pub fn is_valid(store: &[u8]) -> bool
+    ensures { λ r. ⌜ r ≡ validOf (now (store .entry)) ⌝ }
+{
+    if store.len() < DIRECTORY {
+        return false;
+    }
+    let mut seen = [0u8; SEEN];
     let mut p = 0;
+    let mut count = 0;
+    let mut used = 0;
     loop {
         let n = step_at(store, p);
         if n == 0 {
-            return true;
+            return closes(
+                store,
+                Totals {
+                    end: p,
+                    count,
+                    used,
+                },
+            );
         }
         let e = entry_at(store, p);
         if !is_fair(e) {
             return false;
         }
-        if has_file(store, p + n, e.kind, e.number) {
+        let i = slot(e);
+        if (seen[i / 8] >> (7 - i % 8)) % 2 == 1 {
             return false;
         }
+        seen[i / 8] = seen[i / 8] | (128u8 >> (i % 8));
+        used += e.size;
+        count += 1;
         p += n;
     }
-}
-
-fn zeros_from(store: &[u8], from: usize) -> bool
-    ensures { λ r. ⌜ r ≡ zerosFrom from (now (store .entry)) ⌝ }
-{
-    let mut p = from;
-    while p < DIRECTORY {
-        if byte_at(store, p) != 0 {
-            return false;
-        }
-        p += 1;
-    }
-    true
-}
-
-// Whether the directory keeps its rules.
-pub fn is_valid(store: &[u8]) -> bool
-    ensures { λ r. ⌜ r ≡ validOf (now (store .entry)) ⌝ }
-{
-    let t = tally(store);
-    if !zeros_from(store, t.end) {
-        return false;
-    }
-    if MAX_FILES < t.count {
-        return false;
-    }
-    if !keep_rules(store) {
-        return false;
-    }
-    DIRECTORY + t.used <= store.len()
 }

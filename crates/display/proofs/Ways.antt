@@ -8,21 +8,15 @@ use native.Mathlib.Omega.{arith}
 use native.Mathlib.Nat.{zero-add}
 use lib.Dec.{eqb, leb}
 use lib.ListN.{length, getD, take, drop, set, drop-of-length-le}
-use lib.Seq.{sets-eq, take-all}
+use lib.Seq.{sets-eq}
 use borrow.Author.Tests.{eq-eqb, ne-eqb, le-leb, lt-leb, not-true, not-false}
 use Rattle.pixels.specs.Framebuffer.{fill}
 use Rattle.pixels.specs.Regions.{everywhere}
 use Rattle.scroll.proofs.Bytes.{cleared-zeros}
 use Rattle.directory.specs.Directory.{validOf}
-use Rattle.queue.specs.declared.Queue.{Queue}
 use Rattle.queue.specs.declared.Flow.{Flow}
-use Rattle.queue.specs.declared.Arrival.{Arrival}
-use Rattle.queue.specs.declared.Taken.{Taken}
-use Rattle.queue.specs.Queue.{arriveOf, takeOf}
-use Rattle.queue.specs.Record as queue-record
-use Rattle.queue.proofs.Tables as tables
-use Rattle.queue.proofs.Round as queue-round
-use Rattle.queue.proofs.Contents.{arrival-sound, take-sound}
+use Rattle.queue.specs.Record.{Served, served, arriveIn, takeIn}
+use Rattle.queue.proofs.Answers.{arrival-byte}
 use Rattle.state.specs.declared.Phase.{Phase}
 use Rattle.state.specs.declared.Phase.the-variants.{Upload}
 use Rattle.state.specs.declared.State.{State}
@@ -39,7 +33,7 @@ use Rattle.rules.proofs.Replies.{said-fits}
 use Rattle.calls.specs.Memory.{framebufferRows, framebufferBytes, Memory, memory, storeFits, uploadRefused, checked, loaded, saved, Kept}
 use Rattle.calls.specs.Feed.{fedBytes, feedOf}
 use Rattle.calls.specs.Start.{started, startChecked, startOf, emptied}
-use Rattle.calls.specs.Line.{served, arriveCall, takeCall}
+use Rattle.calls.specs.Line.{arriveCall, takeCall}
 use Rattle.calls.proofs.Demands.{checked-kept, state-fits}
 use Rattle.display.specs.Exports.{called, calledBy, feedCall}
 use Rattle.display.specs.Running.{Ran}
@@ -171,49 +165,22 @@ feed-end g s st p r u z g' s' z' st' q a n k c sound fine read ran wrote =
 
 -- ---- arrive and take
 
-whole-queue : (q : Queue) (g : List ℕ) → length (q .ring) ≡ 80 → length g ≡ 85 → queue-record.encodedIn q g ≡ queue-record.encodeOf q
-unfolding queue-record.encodedIn
-whole-queue q g e n =
-    ap (λ (l : List ℕ). take (length g) (queue-record.encodeOf q) ++ l) (drop-of-length-le g {i = 85} (omega (arith, n))) ∙ append-nil (take (length g) (queue-record.encodeOf q))
-    ∙ take-all (length g) (queue-record.encodeOf q) (omega (arith, n, tables.length-encode q e))
-
-module _ (st q : List ℕ) (b : ℕ) (t : Bool) (sound : t ≡ soundRecord framebufferRows st) where
-  pub arrive-3 : not t ≡ true → served 3 0 0 q ≡ arriveCall st q b
+module _ (st q : List ℕ) (t : Bool) (sound : t ≡ soundRecord framebufferRows st) where
+  pub arrive-3 : (b : ℕ) → not t ≡ true → served 3 0 0 q ≡ arriveCall st q b
   unfolding arriveCall
-  arrive-3 h = rw (← sound, not-true t h)
+  arrive-3 b h = rw (← sound, not-true t h)
 
   pub take-3 : not t ≡ true → served 3 0 0 q ≡ takeCall st q
   unfolding takeCall
   take-3 h = rw (← sound, not-true t h)
 
-  module _ (fine : not t ≡ false) (u : Bool) (sound-queue : u ≡ queue-record.soundRecord q) where
-    pub arrive-3-queue : not u ≡ true → served 3 0 0 q ≡ arriveCall st q b
-    unfolding arriveCall
-    arrive-3-queue h = rw (← sound, not-false t fine, ← sound-queue, not-true u h)
+  module _ (fine : not t ≡ false) (f : Flow) (flow-is : f ≡ decodeOf st .port .flow) (a k s : ℕ) (q' : List ℕ) where
+    pub arrive-queue : (b : ℕ) → served a k s q' ≡ arriveIn q f b → served a 0 s q' ≡ arriveCall st q b
+    unfolding arriveCall arriveIn
+    arrive-queue b e =
+        let z : k ≡ 0 = ap (λ (x : Served). x .byte) e ∙ arrival-byte q f b in
+        ap (λ (n : ℕ). served a n s q') (sym z) ∙ e ∙ rw (← sound, not-false t fine, flow-is)
 
-    pub take-3-queue : not u ≡ true → served 3 0 0 q ≡ takeCall st q
-    unfolding takeCall
-    take-3-queue h = rw (← sound, not-false t fine, ← sound-queue, not-true u h)
-
-    module _ (good : not u ≡ false) (k : Queue) (f : Flow) (q' : List ℕ) (flow-is : f ≡ decodeOf st .port .flow) (held : k ≡ queue-record.decodeOf q) where
-      passes-queue : queue-record.soundRecord q ≡ true
-      passes-queue = sym sound-queue ∙ not-false u good
-
-      long : length q ≡ 85
-      long = queue-round.passed q passes-queue .long
-
-      pub arrive-0 : (a : Arrival) → a ≡ arriveOf k f b → q' ≡ queue-record.encodedIn (a .queue) q → served (a .answer) 0 (a .signal) q' ≡ arriveCall st q b
-      unfolding arriveCall
-      arrive-0 a e d =
-          let o : a ≡ arriveOf (queue-record.decodeOf q) (decodeOf st .port .flow) b = e ∙ rw (held, flow-is) in
-          let ring : length (a .queue .ring) ≡ 80 =
-          ap (λ (x : Arrival). length (x .queue .ring)) o ∙ arrival-sound (queue-record.decodeOf q) (decodeOf st .port .flow) b (queue-round.decoded-sound q passes-queue) .size in
-          rw (← sound, not-false t fine, ← sound-queue, not-false u good, d ∙ whole-queue (a .queue) q ring long, ← o)
-
-      pub take-0 : (a : Taken) → a ≡ takeOf k f → q' ≡ queue-record.encodedIn (a .queue) q → served (a .answer) (a .byte) (a .signal) q' ≡ takeCall st q
-      unfolding takeCall
-      take-0 a e d =
-          let o : a ≡ takeOf (queue-record.decodeOf q) (decodeOf st .port .flow) = e ∙ rw (held, flow-is) in
-          let ring : length (a .queue .ring) ≡ 80 =
-          ap (λ (x : Taken). length (x .queue .ring)) o ∙ take-sound (queue-record.decodeOf q) (decodeOf st .port .flow) (queue-round.decoded-sound q passes-queue) .size in
-          rw (← sound, not-false t fine, ← sound-queue, not-false u good, d ∙ whole-queue (a .queue) q ring long, ← o)
+    pub take-queue : served a k s q' ≡ takeIn q f → served a k s q' ≡ takeCall st q
+    unfolding takeCall takeIn
+    take-queue e = e ∙ rw (← sound, not-false t fine, flow-is)

@@ -238,13 +238,8 @@ pub extern "C" fn display_arrive(state: &[u8], queue: &mut [u8], byte: u8, signa
     if !record::is_record(state, ROWS) {
         return BAD_RECORD;
     }
-    if !queue::sound(queue) {
-        return BAD_RECORD;
-    }
     let flow = record::flow_in(state);
-    let arrival = queue::arrive(queue::decode(queue), flow, byte);
-    let next = arrival.queue;
-    queue::encode(next, queue);
+    let arrival = queue::arrive(queue, flow, byte);
     *signal = arrival.signal;
     arrival.answer as u32
 }
@@ -264,13 +259,8 @@ pub extern "C" fn display_take(
     if !record::is_record(state, ROWS) {
         return BAD_RECORD;
     }
-    if !queue::sound(queue) {
-        return BAD_RECORD;
-    }
     let flow = record::flow_in(state);
-    let taken = queue::take(queue::decode(queue), flow);
-    let next = taken.queue;
-    queue::encode(next, queue);
+    let taken = queue::take(queue, flow);
     *byte = taken.byte;
     *signal = taken.signal;
     taken.answer as u32

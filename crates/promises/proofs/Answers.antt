@@ -9,11 +9,8 @@ use native.Mathlib.Decide.{decLt}
 use lib.Dec.{eqb, ltb}
 use lib.ListN.{length, take}
 use borrow.Author.Tests.{lt-ltb, le-ltb, eq-eqb, ne-eqb}
-use Rattle.queue.specs.declared.Arrival.{Arrival}
-use Rattle.queue.specs.declared.Taken.{Taken}
-use Rattle.queue.specs.Queue.{arriveOf, takeOf}
+use Rattle.queue.specs.Queue.{Arrival, Taken, arriveOf, takeOf}
 use Rattle.queue.specs.Record.{decodeOf}
-use Rattle.queue.specs.Record as queue-record
 use Rattle.record.specs.Writing.{encodeOf}
 use Rattle.rules.specs.World.{World}
 use Rattle.rules.specs.Calls.{run, taken}

@@ -7,9 +7,8 @@ use native.Mathlib.Omega.{arith}
 use Prim.Native.Nat.{ℕ, _+_, _%_}
 use lib.Dec.{eqb}
 use Rattle.pixels.proofs.Tests.{by-test}
-use Rattle.queue.specs.declared.Queue.{Queue}
 use Rattle.queue.specs.declared.Flow.{Flow}
-use Rattle.queue.specs.Queue.{stored, counted, advanced, arriveOf, takeOf}
+use Rattle.queue.specs.Queue.{Queue, stored, counted, advanced, arriveOf, takeOf}
 use Rattle.queue.specs.Record.{decodeOf}
 use Rattle.queue.proofs.Cases.{arrive-cases, take-cases}
 use Rattle.queue.proofs.Contents.{arrival-sound, take-sound}

@@ -2,13 +2,14 @@
 -- Assumes nothing.
 use mathlib.Core.Path.{_≡_, refl}
 use mathlib.Core.Bool.{false}
+use mathlib.Core.List.{List}
 use Prim.Native.Nat.{ℕ, _<_, _≤_}
 use native.Mathlib.Omega.{arith}
-use Rattle.queue.specs.declared.Queue.{Queue}
 use Rattle.queue.specs.declared.Flow.{Flow}
 use Rattle.queue.specs.Watermarks.{whileOn}
-use Rattle.queue.specs.Queue.{arrival, taken, stored, counted, arriveOf, advanced, takeOf}
-use Rattle.queue.proofs.Cases.{arrive-cases, take-cases}
+use Rattle.queue.specs.Queue.{Queue, arrival, taken, stored, counted, arriveOf, advanced, takeOf}
+use Rattle.queue.specs.Record.{Served, soundRecord, arriveIn}
+use Rattle.queue.proofs.Cases.{by-test, arrive-cases, take-cases}
 
 module _ (q : Queue) (f : Flow) (b : ℕ) where
   pub accepts : q .held < 80 → arriveOf q f b .answer ≡ 0
@@ -41,3 +42,8 @@ module _ (q : Queue) (f : Flow) where
   unfolding whileOn advanced
   off-takes o =
       take-cases q f (λ t. t .answer ≡ 0 → (t .signal ≡ 0) × (t .queue .mark ≡ false)) (λ h e. absurd (omega arith)) (λ h e. rw o (refl, refl))
+
+-- an arrival hands out no byte
+pub arrival-byte : (r : List ℕ) (f : Flow) (b : ℕ) → arriveIn r f b .byte ≡ 0
+unfolding arriveIn
+arrival-byte r f b = by-test (λ (x : Served). x .byte ≡ 0) (soundRecord r) _ _ (λ _. refl) (λ _. refl)

@@ -6,12 +6,9 @@ use Prim.Native.Nat.{ℕ, _+_, _-_, _<_, _≤_}
 use native.Mathlib.Omega.{arith}
 use lib.Dec.{ltb, eqb}
 use borrow.Author.Tests.{ltb-true, ltb-false, eqb-true, eqb-false}
-use Rattle.queue.specs.declared.Queue.{Queue}
 use Rattle.queue.specs.declared.Flow.{Flow}
-use Rattle.queue.specs.declared.Arrival.{Arrival}
-use Rattle.queue.specs.declared.Taken.{Taken}
 use Rattle.queue.specs.Watermarks.{afterArrival, afterTake}
-use Rattle.queue.specs.Queue.{arrival, taken, stored, counted, arriveOf, oldest, advanced, takeOf}
+use Rattle.queue.specs.Queue.{Queue, Arrival, Taken, arrival, taken, stored, counted, arriveOf, oldest, advanced, takeOf}
 
 pub by-test : {A : Type 0} (P : A → Type 0) (t : Bool) (x y : A) → (t ≡ true → P x) → (t ≡ false → P y) → P (cond t x y)
 by-test P true x y f g = f refl

@@ -8,11 +8,8 @@ use native.Mathlib.Omega.{arith}
 use native.Mathlib.Numerals.{add-one}
 use lib.ListN.{getD, set, length-set}
 use lib.Seq.{getD-set-same, getD-set-other}
-use Rattle.queue.specs.declared.Queue.{Queue}
 use Rattle.queue.specs.declared.Flow.{Flow}
-use Rattle.queue.specs.declared.Arrival.{Arrival}
-use Rattle.queue.specs.declared.Taken.{Taken}
-use Rattle.queue.specs.Queue.{stored, counted, arriveOf, oldest, advanced, takeOf, Sound, around, contents}
+use Rattle.queue.specs.Queue.{Queue, Arrival, Taken, stored, counted, arriveOf, oldest, advanced, takeOf, Sound, around, contents}
 use Rattle.queue.proofs.Cases.{arrived, left, arrive-cases, take-cases}
 
 -- ---- around the ring

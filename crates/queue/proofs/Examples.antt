@@ -5,10 +5,9 @@ use mathlib.Core.Bool.{Bool, true, false}
 use mathlib.Core.List.{List, [], _∷_, _++_}
 use Prim.Native.Nat.{ℕ}
 use lib.ListN.{replicate}
-use Rattle.queue.specs.declared.Queue.{Queue}
 use Rattle.queue.specs.declared.Flow.{Flow}
 use Rattle.queue.specs.Watermarks.{highWater, lowWater, whileOn}
-use Rattle.queue.specs.Queue.{queue, arrival, taken, stored, counted, arriveOf, oldest, advanced, takeOf, around, contents}
+use Rattle.queue.specs.Queue.{Queue, queue, arrival, taken, stored, counted, arriveOf, oldest, advanced, takeOf, around, contents}
 use Rattle.queue.specs.Record.{bytesFrom, decodeOf, soundRecord}
 use Rattle.queue.specs.History.{Op, arrives, takes, afterAll, handedAll, signals}
 

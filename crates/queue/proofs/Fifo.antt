@@ -5,8 +5,7 @@ use mathlib.Core.Bool.{cond}
 use mathlib.Core.List.{List, [], _∷_, _++_, append-nil, append-assoc}
 use Prim.Native.Nat.{ℕ}
 use lib.Dec.{eqb}
-use Rattle.queue.specs.declared.Queue.{Queue}
-use Rattle.queue.specs.Queue.{Sound, contents}
+use Rattle.queue.specs.Queue.{Queue, Sound, contents}
 use Rattle.queue.specs.History.{Op, arrives, takes, after, handed, accepted, afterAll, handedAll, acceptedAll}
 use Rattle.queue.proofs.Cases.{arrive-cases, take-cases}
 use Rattle.queue.proofs.Contents.{contents-arrived, contents-left, contents-counted, arrival-sound, take-sound}

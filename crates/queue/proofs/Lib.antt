@@ -1,4 +1,3 @@
-pub mod Ways
 pub mod Tables
 pub mod Cases
 pub mod Answers
@@ -7,5 +6,7 @@ pub mod Fifo
 pub mod Lost
 pub mod Signals
 pub mod Round
-pub mod Written
+pub mod InPlace
+pub mod Ways
+pub mod Fits
 pub mod Examples

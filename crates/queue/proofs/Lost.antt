@@ -6,8 +6,7 @@ use mathlib.Core.List.{List, [], _∷_}
 use Prim.Native.Nat.{ℕ, _+_, _%_, _<_}
 use native.Mathlib.Omega.{arith}
 use lib.Dec.{eqb}
-use Rattle.queue.specs.declared.Queue.{Queue}
-use Rattle.queue.specs.Queue.{stored, counted, advanced}
+use Rattle.queue.specs.Queue.{Queue, stored, counted, advanced}
 use Rattle.queue.specs.History.{Op, arrives, takes, after, dropped, afterAll, droppedAll}
 use Rattle.queue.proofs.Cases.{arrive-cases, take-cases}
 

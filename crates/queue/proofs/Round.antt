@@ -11,18 +11,16 @@ use lib.Dec.{ltb, leb, eqb, lit<}
 use lib.ListN.{length, List·getD-append, List·getD-eq-default}
 use lib.Seq.{getD-append-add, ext-getD}
 use borrow.Author.Tests.{ltb-true, leb-true, eqb-true, lt-ltb, le-leb, eq-eqb}
-use Rattle.queue.specs.declared.Queue.{Queue}
-use Rattle.queue.specs.Queue.{Sound}
-use Rattle.queue.specs.Record.{at, bit, bytesFrom, decodeOf, encodeOf, soundRing, canonicalMark, soundRecord, Fits, Bytes}
-use Rattle.queue.proofs.Ways.{byte-ring, byte-place, byte-held, byte-mark, byte-lost, byte-lost-high}
-use Rattle.queue.proofs.Tables.{length-bytesFrom, at-bytesFrom, next-byte, length-encode}
+use Rattle.queue.specs.Queue.{Queue, Sound}
+use Rattle.queue.specs.Record.{at, bit, bytesFrom, decodeOf, encodeOf, soundRing, canonicalMark, soundRecord, Passed, Fits, Bytes}
+use Rattle.queue.proofs.Tables.{length-bytesFrom, at-bytesFrom, next-byte, length-encode, behind, byte-ring}
 
 -- ---- from the queue
 
 ring-back : (q : Queue) → length (q .ring) ≡ 80 → bytesFrom (encodeOf q) 0 80 ≡ q .ring
 ring-back q s =
     ext-getD 0 (bytesFrom (encodeOf q) 0 80) (q .ring) (length-bytesFrom (encodeOf q) 0 80 ∙ sym s)
-    (λ i h. let k : i < 80 = rw (length-bytesFrom (encodeOf q) 0 80) at h in sym (next-byte (encodeOf q) i (at (q .ring) i) k (byte-ring q i s k)))
+    (λ i h. let k : i < 80 = rw (length-bytesFrom (encodeOf q) 0 80) at h in sym (next-byte (encodeOf q) i (at (q .ring) i) k (sym (byte-ring q i s k))))
 
 bit-back : (m : Bool) → eqb (bit m) 1 ≡ m
 bit-back true = refl
@@ -35,23 +33,16 @@ decode-encode q s =
     let n : q .lost % 256 + 256 * (q .lost / 256) ≡ q .lost = omega arith in
     rw (
       ring-back q s,
-      ← byte-place q 80 s refl,
-      ← byte-held q 81 s refl,
-      ← byte-mark q 82 s (bit (q .mark)) refl refl,
-      ← byte-lost q 83 s refl,
-      ← byte-lost-high q 84 s refl,
+      behind q 0 s,
+      behind q 1 s,
+      behind q 2 s,
+      behind q 3 s,
+      behind q 4 s,
       bit-back (q .mark),
       n,
     )
 
 -- ---- from the record
-
--- what the test says
-pub record Passed (r : List ℕ) : Type 0 where
-  pub long : length r ≡ 85
-  pub place-below : at r 80 < 80
-  pub held-most : at r 81 ≤ 80
-  pub mark-bit : at r 82 ≤ 1
 
 both : (a b : Bool) → (a && b) ≡ true → (a ≡ true) × (b ≡ true)
 both true b e = (refl, e)
@@ -89,14 +80,16 @@ split : (r : List ℕ) → bytesFrom r 0 80 ++ (at r 80 ∷ at r 81 ∷ at r 82 
 unfolding bytesFrom
 split r = refl
 
--- WRITING WHAT WAS READ
-pub encode-decode : (r : List ℕ) → Bytes r → soundRecord r ≡ true → encodeOf (decodeOf r) ≡ r
+pub rewritten : (r : List ℕ) → Bytes r → Passed r → encodeOf (decodeOf r) ≡ r
 unfolding encodeOf decodeOf
-encode-decode r b e =
-    let p = passed r e in
+rewritten r b p =
     let low : (at r 83 + 256 * at r 84) % 256 ≡ at r 83 = omega (arith, b 83) in
     let high : (at r 83 + 256 * at r 84) / 256 ≡ at r 84 = omega (arith, b 83) in
     rw (mark-back (at r 82) (p .mark-bit), low, high) (split r ∙ whole r (p .long))
+
+-- WRITING WHAT WAS READ
+pub encode-decode : (r : List ℕ) → Bytes r → soundRecord r ≡ true → encodeOf (decodeOf r) ≡ r
+encode-decode r b e = rewritten r b (passed r e)
 
 -- ---- sound both ways
 
@@ -130,9 +123,9 @@ pub encoded-sound : (q : Queue) → Sound q → soundRecord (encodeOf q) ≡ tru
 encoded-sound q s =
     passes (encodeOf q) (record {
       long = length-encode q (s .size);
-      place-below = rw (← byte-place q 80 (s .size) refl) (s .below);
-      held-most = rw (← byte-held q 81 (s .size) refl) (s .most);
-      mark-bit = rw (← byte-mark q 82 (s .size) (bit (q .mark)) refl refl) (bit-small (q .mark));
+      place-below = rw (behind q 0 (s .size)) (s .below);
+      held-most = rw (behind q 1 (s .size)) (s .most);
+      mark-bit = rw (behind q 2 (s .size)) (bit-small (q .mark));
     })
 
 bytes-five : (a b c d e : ℕ) → a < 256 → b < 256 → c < 256 → d < 256 → e < 256 → Bytes (a ∷ b ∷ c ∷ d ∷ e ∷ [])

@@ -7,10 +7,9 @@ use Prim.Native.Nat.{ℕ, zero, suc, _+_, _-_, _≤_}
 use native.Mathlib.Omega.{arith}
 use lib.Dec.{leb, eqb}
 use lib.ListN.{take}
-use Rattle.queue.specs.declared.Queue.{Queue}
 use Rattle.queue.specs.declared.Watermark.{Watermark}
 use Rattle.queue.specs.Watermarks.{watermark, highWater, lowWater, whileOn}
-use Rattle.queue.specs.Queue.{stored, counted, advanced}
+use Rattle.queue.specs.Queue.{Queue, stored, counted, advanced}
 use Rattle.queue.specs.Record.{bit}
 use Rattle.queue.specs.History.{Op, arrives, takes, after, signal, afterAll, signals, count, latest}
 use Rattle.queue.proofs.Cases.{arrive-cases, take-cases}

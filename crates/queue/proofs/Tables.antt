@@ -1,15 +1,14 @@
--- Lists that a loop fills from the front: the ring that `decode` reads and the record that `encode` writes.
+-- The bytes of a record, and lists that a loop fills from the front.
 -- Assumes nothing.
 use mathlib.Core.Path.{_≡_, refl, sym, ap, _∙_}
-use mathlib.Core.List.{List, _++_, append-nil}
-use Prim.Native.Nat.{ℕ, zero, suc, _+_, _<_, _≤_, min}
+use mathlib.Core.List.{List, [], _∷_, _++_, append-nil}
+use Prim.Native.Nat.{ℕ, zero, suc, _+_, _<_, _/_, _%_, _≤_}
 use native.Mathlib.Omega.{arith}
 use native.Mathlib.Numerals.{add-one}
-use native.Mathlib.Decide.{decLt}
-use lib.ListN.{length, take, drop, set, length-append, length-set, take-append-drop, drop-of-length-le}
-use lib.Seq.{take-suc, take-suc-set, take-all, drop-set-lt, drop-drop}
-use Rattle.queue.specs.declared.Queue.{Queue}
-use Rattle.queue.specs.Record.{at, bytesFrom, encodeOf, encodedIn}
+use lib.ListN.{length, getD, take, drop, set, length-append, length-set, take-append-drop, drop-of-length-le, List·getD-append}
+use lib.Seq.{getD-append-add, take-suc, take-suc-set, take-all, drop-set-lt, drop-drop}
+use Rattle.queue.specs.Queue.{Queue}
+use Rattle.queue.specs.Record.{at, bit, bytesFrom, encodeOf}
 
 -- ---- tables
 
@@ -29,6 +28,17 @@ at-bytesFrom r k (suc n) (suc i) h =
 pub length-encode : (q : Queue) → length (q .ring) ≡ 80 → length (encodeOf q) ≡ 85
 unfolding encodeOf
 length-encode q s = length-append (q .ring) _ ∙ rw s
+
+-- the five bytes behind the ring
+pub behind : (q : Queue) (i : ℕ) → length (q .ring) ≡ 80 → at (encodeOf q) (80 + i) ≡ getD (q .place ∷ q .held ∷ bit (q .mark) ∷ q .lost % 256 ∷ q .lost / 256 ∷ []) i 0
+unfolding encodeOf
+behind q i s =
+    rw (← s)
+    (getD-append-add (q .ring) (q .place ∷ q .held ∷ bit (q .mark) ∷ q .lost % 256 ∷ q .lost / 256 ∷ []) i 0)
+
+pub byte-ring : (q : Queue) (k : ℕ) → length (q .ring) ≡ 80 → k < 80 → at (encodeOf q) k ≡ at (q .ring) k
+unfolding encodeOf
+byte-ring q k s h = List·getD-append (q .ring) _ 0 k (omega arith)
 
 pub next-byte : (r : List ℕ) (k b : ℕ) → k < 80 → b ≡ at r k → b ≡ at (bytesFrom r 0 80) k
 next-byte r k b h e = let z : 0 + k ≡ k = omega arith in e ∙ sym (at-bytesFrom r 0 80 k h ∙ ap (at r) z)
@@ -65,18 +75,3 @@ module _ {l : List ℕ} {n : ℕ} where
     -- all of l, over as many bytes
     pub over-whole : n ≤ k → length l ≡ n → length g₀ ≡ n → g ≡ l
     over-whole h e f = over-all h ∙ rw (take-all n l (omega arith), drop-of-length-le g₀ {i = n} (omega arith)) (append-nil l)
-
--- as much of a record as there is room for
-pub record-start : (q : Queue) {g : List ℕ} {n : ℕ} → length (q .ring) ≡ 80 → n ≡ min 85 (length g) → Over (encodeOf q) g g n 0
-record-start q s e = over-start (omega (arith, length-encode q s)) (omega arith)
-
-pub record-end : (q : Queue) {g₀ g : List ℕ} {n k : ℕ} → Over (encodeOf q) g₀ g n k → length (q .ring) ≡ 80 → n ≡ min 85 (length g₀) → n ≤ k → g ≡ encodedIn q g₀
-unfolding encodedIn
-record-end q {g₀} {g} {n} {k} o s e h =
-    over-all o h
-    ∙ elim (decLt (length g₀) 85) [
-      | yes l ↦ (let d : n ≡ length g₀ = omega arith in
-          rw (d, drop-of-length-le g₀ {i = length g₀} (omega arith), drop-of-length-le g₀ {i = 85} (omega arith)))
-      | no l ↦ (let d : n ≡ 85 = omega arith in
-          rw (d, take-all 85 (encodeOf q) (omega (arith, length-encode q s)), take-all (length g₀) (encodeOf q) (omega (arith, length-encode q s))))
-    ]

@@ -4,9 +4,8 @@ use mathlib.Core.Bool.{cond}
 use mathlib.Core.List.{List, [], _∷_, _++_}
 use Prim.Native.Nat.{ℕ, _+_}
 use lib.Dec.{eqb}
-use Rattle.queue.specs.declared.Queue.{Queue}
 use Rattle.queue.specs.declared.Flow.{Flow}
-use Rattle.queue.specs.Queue.{arriveOf, takeOf}
+use Rattle.queue.specs.Queue.{Queue, arriveOf, takeOf}
 
 pub data Op : Type 0 where
   arrives : Flow → ℕ → Op

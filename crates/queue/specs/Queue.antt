@@ -7,11 +7,27 @@ use mathlib.Core.List.{List, [], _∷_}
 use Prim.Native.Nat.{ℕ, zero, suc, _+_, _-_, _%_, _<_, _≤_}
 use lib.Dec.{ltb, eqb}
 use lib.ListN.{length, getD, set}
-use Rattle.queue.specs.declared.Queue.{Queue}
 use Rattle.queue.specs.declared.Flow.{Flow}
-use Rattle.queue.specs.declared.Arrival.{Arrival}
-use Rattle.queue.specs.declared.Taken.{Taken}
 use Rattle.queue.specs.Watermarks.{afterArrival, afterTake}
+
+-- `place` is the index of the oldest byte
+pub record Queue : Type 0 where
+  pub ring : List ℕ
+  pub place : ℕ
+  pub held : ℕ
+  pub mark : Bool
+  pub lost : ℕ
+
+pub record Arrival : Type 0 where
+  pub answer : ℕ
+  pub signal : ℕ
+  pub queue : Queue
+
+pub record Taken : Type 0 where
+  pub answer : ℕ
+  pub byte : ℕ
+  pub signal : ℕ
+  pub queue : Queue
 
 abbrev pub queue : List ℕ → ℕ → ℕ → Bool → ℕ → Queue
 queue ring place held mark lost = record { ring = ring; place = place; held = held; mark = mark; lost = lost }

@@ -17,7 +17,10 @@ use fonts::check_font;
 use opened_font::Glyph;
 use opened_font::glyph_of;
 use queue::Flow;
-use queue::Queue;
+use queue::HELD;
+use queue::LOST;
+use queue::LOST_HIGH;
+use queue::PLACE;
 use queue::arrive;
 use queue::take;
 ghost use mathlib.Core.Path.{_≡_};
@@ -429,49 +432,50 @@ fn flow() -> Flow {
     }
 }
 
-fn queue_at(place: u8, held: u8, lost: u16) -> Queue {
-    Queue {
-        ring: [0; 80],
-        place: place,
-        held: held,
-        mark: false,
-        lost: lost,
+fn place_queue(q: &mut [u8], place: u8, held: u8) {
+    if q.len() == queue::RECORD {
+        q[PLACE] = place;
+        q[HELD] = held;
     }
 }
 
-fn put(q: Queue, byte: u8) -> Queue {
+fn lost(q: &[u8]) -> usize {
+    let low = byte_at(q, LOST) as usize;
+    let high = byte_at(q, LOST_HIGH) as usize;
+    low + 256 * high
+}
+
+fn put(q: &mut [u8], byte: u8) {
     let a = arrive(q, flow(), byte);
     say(b"put ");
     say_number(byte as usize);
     line(b": answer ", a.answer as usize);
-    a.queue
 }
 
-fn get(q: Queue) -> Queue {
+fn get(q: &mut [u8]) {
     let t = take(q, flow());
     say(b"get: answer ");
     say_number(t.answer as usize);
     line(b", byte ", t.byte as usize);
-    t.queue
 }
 
 fn wraps() {
     say(b"a ring from place 79\n");
-    let q = queue_at(79, 0, 0);
-    let q = get(q);
-    let q = put(q, 1);
-    let q = put(q, 2);
-    let q = get(q);
-    let q = put(q, 3);
-    let q = get(q);
-    let q = get(q);
-    let q = get(q);
-    line(b"place ", q.place as usize);
+    let mut q = [0; queue::RECORD];
+    place_queue(&mut q, 79, 0);
+    get(&mut q);
+    put(&mut q, 1);
+    put(&mut q, 2);
+    get(&mut q);
+    put(&mut q, 3);
+    get(&mut q);
+    get(&mut q);
+    get(&mut q);
+    line(b"place ", byte_at(&q, PLACE) as usize);
 }
 
 // n bytes put, and the signals among them.
-fn fill(from: Queue, n: u8) -> Queue {
-    let mut q = from;
+fn fill(q: &mut [u8], n: u8) {
     let mut k = 0;
     while k < n {
         k += 1;
@@ -481,14 +485,10 @@ fn fill(from: Queue, n: u8) -> Queue {
             say_number(k as usize);
             line(b" sends ", a.signal as usize);
         }
-        let next = a.queue;
-        q = next;
     }
-    q
 }
 
-fn drain(from: Queue, n: u8) -> Queue {
-    let mut q = from;
+fn drain(q: &mut [u8], n: u8) {
     let mut k = 0;
     while k < n {
         k += 1;
@@ -498,30 +498,41 @@ fn drain(from: Queue, n: u8) -> Queue {
             say_number(k as usize);
             line(b" sends ", t.signal as usize);
         }
-        let next = t.queue;
-        q = next;
     }
-    q
 }
 
 fn signals() {
     say(b"80 bytes put\n");
-    let q = fill(queue_at(0, 0, 0), 80);
-    line(b"held ", q.held as usize);
-    let q = put(q, 81);
-    line(b"lost ", q.lost as usize);
+    let mut q = [0; queue::RECORD];
+    fill(&mut q, 80);
+    line(b"held ", byte_at(&q, HELD) as usize);
+    put(&mut q, 81);
+    line(b"lost ", lost(&q));
     say(b"80 bytes taken\n");
-    let q = drain(q, 80);
-    line(b"held ", q.held as usize);
-    let q = get(q);
-    line(b"lost ", q.lost as usize);
+    drain(&mut q, 80);
+    line(b"held ", byte_at(&q, HELD) as usize);
+    get(&mut q);
+    line(b"lost ", lost(&q));
 }
 
 fn losses() {
     say(b"a full queue that lost 65535\n");
-    let q = put(queue_at(0, 80, 65535), 1);
-    line(b"lost ", q.lost as usize);
-    line(b"held ", q.held as usize);
+    let mut q = [0; queue::RECORD];
+    place_queue(&mut q, 0, 80);
+    q[LOST] = 255;
+    q[LOST_HIGH] = 255;
+    put(&mut q, 1);
+    line(b"lost ", lost(&q));
+    line(b"held ", byte_at(&q, HELD) as usize);
+}
+
+fn unsound() {
+    say(b"a place of 80\n");
+    let mut q = [0; queue::RECORD];
+    place_queue(&mut q, 80, 1);
+    put(&mut q, 1);
+    get(&mut q);
+    line(b"held ", byte_at(&q, HELD) as usize);
 }
 
 fn main() {
@@ -544,4 +555,5 @@ fn main() {
     wraps();
     signals();
     losses();
+    unsound();
 }

@@ -1,42 +1,114 @@
-use borrow.Author.Tests.{not-true, not-false}
-use Rattle.directory.proofs.Walks.{valid-zeros, valid-many, valid-rules, valid-room}
 use borrow.Author.Needs.{needs}
+use Prim.Native.Nat.{_-_}
+use native.Mathlib.Omega.{arith}
+use borrow.Author.Tests.{not-true, not-false}
+use Rattle.directory.proofs.Laws.{stands}
+use Rattle.directory.proofs.Seen.{file-numbered}
+use Rattle.directory.proofs.Walks.{Surveying, short, survey-start, survey-end, survey-unfair, survey-twice, survey-more}
 use Rattle.directory.proofs.is_valid.Statement.{statement}
 use Rattle.directory.proofs.is_valid.Tie as tie
 
-tally-requires : tie.Need-tally-requires
-tally-requires c κs = search needs
+abbrev Inv-loop : tie.InvT-loop
+Inv-loop store seen₀ p₀ count₀ used₀ seen p count used = Surveying store seen p count used
 
-zeros-from-requires : tie.Need-zeros-from-requires
-zeros-from-requires c κs = search needs
+abbrev μ-loop : tie.MeasureT-loop
+μ-loop store seen₀ p₀ count₀ used₀ seen p count used = 256 - p
 
-returns : tie.Need-returns
-returns c = valid-zeros _ _ _ (c .before .before .tally .ensures .0) (c .before .zeros-from .ensures) (not-true _ (c .if1 .taken))
+returns : tie.Need-returns Inv-loop μ-loop
+returns c = short _ (search needs)
 
-returns-2 : tie.Need-returns-2
-returns-2 c = valid-many _ _ _ (c .before .before .before .before .tally .ensures .0) (c .before .before .before .zeros-from .ensures) (not-false _ (c .before .before .if1 .left)) (search needs)
+loop-holds : tie.Need-loop-holds Inv-loop μ-loop
+loop-holds c = survey-start _
 
-keep-rules-requires : tie.Need-keep-rules-requires
-keep-rules-requires c κs = search needs
+step-at-requires : tie.Need-step-at-requires Inv-loop μ-loop
+step-at-requires c κs = search needs
 
-returns-3 : tie.Need-returns-3
-returns-3 c = valid-rules _ _ _ _ (c .before .before .before .before .before .before .tally .ensures .0) (c .before .before .before .before .before .zeros-from .ensures) (not-false _ (c .before .before .before .before .if1 .left)) (search needs) (c .before .keep-rules .ensures) (not-true _ (c .if3 .taken))
+closes-requires : tie.Need-closes-requires Inv-loop μ-loop
+closes-requires c κs = (search needs, omega (arith, c .before .before .loop .inv .counting .small, c .before .before .loop .inv .counting .within))
 
-add-result : tie.Need-add-result
-add-result c = search needs
+returns-2 : tie.Need-returns-2 Inv-loop μ-loop
+returns-2 c = survey-end _ _ _ _ _ _ (c .before .before .before .loop .inv) (c .before .before .step-at .ensures) _ (search needs) (c .closes .ensures)
 
-returns-4 : tie.Need-returns-4
-returns-4 c = valid-room _ _ _ _ (c .before .before .before .before .before .before .before .tally .ensures .0) (c .before .before .before .before .before .before .zeros-from .ensures) (not-false _ (c .before .before .before .before .before .if1 .left)) (search needs) (c .before .before .keep-rules .ensures) (not-false _ (c .before .if3 .left))
+entry-at-requires : tie.Need-entry-at-requires Inv-loop μ-loop
+entry-at-requires c κs = omega (arith, stands _ _ _ (c .before .step-at .ensures) (c .if2 .left))
+
+is-fair-requires : tie.Need-is-fair-requires Inv-loop μ-loop
+is-fair-requires c κs = search needs
+
+returns-3 : tie.Need-returns-3 Inv-loop μ-loop
+returns-3 c = survey-unfair _ _ _ _ _ _ (c .before .before .before .before .before .loop .inv) (c .before .before .before .before .step-at .ensures) (c .before .before .before .if2 .left) _ (c .before .before .entry-at .ensures .0) _ (c .before .is-fair .ensures) (not-true _ (c .if3 .taken))
+
+slot-requires : tie.Need-slot-requires Inv-loop μ-loop
+slot-requires c κs = let a = file-numbered _ (λ i. c .before .before .before .before .before .before .before .shared-slice-known .given i .fits) _ _ _ (c .before .before .before .before .step-at .ensures) (c .before .before .before .if2 .left) (c .before .before .entry-at .ensures .0) in (a .least, a .most)
+
+array-read-if4 : tie.Need-array-read-if4 Inv-loop μ-loop
+array-read-if4 c = search needs
+
+sub-if4 : tie.Need-sub-if4 Inv-loop μ-loop
+sub-if4 c = search needs
+
+cast-if4 : tie.Need-cast-if4 Inv-loop μ-loop
+cast-if4 c = search needs
+
+shr-if4 : tie.Need-shr-if4 Inv-loop μ-loop
+shr-if4 c = search needs
+
+returns-4 : tie.Need-returns-4 Inv-loop μ-loop
+returns-4 c = survey-twice _ _ _ _ _ _ (c .before .before .before .before .before .before .before .loop .inv) (c .before .before .before .before .before .before .step-at .ensures) (c .before .before .before .before .before .if2 .left) _ (c .before .before .before .before .entry-at .ensures .0) _ (c .before .before .before .is-fair .ensures) (not-false _ (c .before .before .if3 .left)) _ (c .before .slot .ensures .0) (search needs)
+
+array-read-seen : tie.Need-array-read-seen Inv-loop μ-loop
+array-read-seen c = search needs
+
+cast-seen : tie.Need-cast-seen Inv-loop μ-loop
+cast-seen c = search needs
+
+shr-seen : tie.Need-shr-seen Inv-loop μ-loop
+shr-seen c = search needs
+
+array-write-seen : tie.Need-array-write-seen Inv-loop μ-loop
+array-write-seen c = search needs
+
+add-used : tie.Need-add-used Inv-loop μ-loop
+add-used c = omega (arith, c .before .before .before .before .before .before .before .before .loop .inv .counting .small, c .before .before .before .before .before .before .before .before .loop .inv .counting .within, c .before .before .before .before .before .entry-at .ensures .1)
+
+add-count : tie.Need-add-count Inv-loop μ-loop
+add-count c = omega (arith, c .before .before .before .before .before .before .before .before .loop .inv .counting .few, c .before .before .before .before .before .before .before .before .loop .inv .counting .within)
+
+add-p : tie.Need-add-p Inv-loop μ-loop
+add-p c = omega (arith, stands _ _ _ (c .before .before .before .before .before .before .before .step-at .ensures) (c .before .before .before .before .before .before .if2 .left))
+
+loop-less : tie.Need-loop-less Inv-loop μ-loop
+loop-less c = omega (arith, stands _ _ _ (c .before .before .before .before .before .before .before .step-at .ensures) (c .before .before .before .before .before .before .if2 .left))
+
+loop-again : tie.Need-loop-again Inv-loop μ-loop
+loop-again c = survey-more _ _ _ _ _ _ (c .before .before .before .before .before .before .before .before .loop .inv) (c .before .before .before .before .before .before .before .step-at .ensures) (c .before .before .before .before .before .before .if2 .left) _ (c .before .before .before .before .before .entry-at .ensures .0) _ (c .before .before .before .before .is-fair .ensures) (not-false _ (c .before .before .before .if3 .left)) _ (c .before .before .slot .ensures .0) (search needs) (λ i. c .before .before .before .before .before .before .before .before .before .before .shared-slice-known .given i .fits) (c .before .before .before .before .before .entry-at .ensures .1)
 
 pub is-valid-spec : {M : Type 1} → statement M
 is-valid-spec =
     tie.close
     (tie.spec
-    tally-requires
-    zeros-from-requires
+    Inv-loop
+    μ-loop
     returns
+    loop-holds
+    step-at-requires
+    closes-requires
     returns-2
-    keep-rules-requires
+    entry-at-requires
+    is-fair-requires
     returns-3
-    add-result
-    returns-4)
+    slot-requires
+    array-read-if4
+    sub-if4
+    cast-if4
+    shr-if4
+    returns-4
+    array-read-seen
+    cast-seen
+    shr-seen
+    array-write-seen
+    add-used
+    add-count
+    add-p
+    loop-less
+    loop-again)
