@@ -4,6 +4,7 @@ use canvas::STRIDE;
 use canvas::WIDTH;
 use canvas::cell;
 use canvas::least;
+use canvas::row_start;
 use canvas::rows_between;
 use spans::cell_end;
 use spans::paint_cell;
@@ -14,7 +15,7 @@ ghost use lib.ListN.{length};
 ghost use Rattle.pixels.specs.Framebuffer.{put, width};
 ghost use Rattle.pixels.specs.Regions.{span, box};
 ghost use Rattle.spans.specs.Bits.{bitsFrom};
-ghost use Rattle.bitmap.specs.Pairs.{pairOf, pairMask, putPair, BlendedPair, rowBits, packedFrom};
+ghost use Rattle.bitmap.specs.Pairs.{pairOf, swapped, columnMask, putPair, BlendedPair, rowBits, packedFrom};
 ghost use Rattle.bitmap.specs.Inline.{PlaceIs};
 ghost use Rattle.bitmap.specs.Bitmaps.{packed, packedBox, inlineByte};
 
@@ -24,37 +25,44 @@ fn word(x: u8) -> u16
     x as u16
 }
 
-// Two bytes as one number, the first byte the higher.
+// Two bytes as one number, the first byte the lower.
 fn pair_at(bytes: &[u8], at: usize) -> u16
     requires { ⌜ at + 1 < length (now bytes) ⌝ }
     ensures { λ r. ⌜ r ≡ pairOf (now (bytes .entry)) at ⌝ }
 {
-    256 * word(bytes[at]) + word(bytes[at + 1])
+    word(bytes[at]) + 256 * word(bytes[at + 1])
 }
 
-// The mask of columns `start` up to, and not with, `stop` of two bytes.
+// The two bytes in each other's place: a pair as sixteen columns, the leftmost the highest bit, or columns as a pair.
+fn swapped(n: u16) -> u16
+    ensures { λ r. ⌜ r ≡ swapped n ⌝ }
+{
+    256 * (n % 256) + n / 256
+}
+
+// The pair whose bits in columns `start` up to, and not with, `stop` are set.
 fn pair_mask(start: u16, stop: u16) -> u16
     requires { ⌜ (start < 16) × (stop < 16) ⌝ }
-    ensures { λ r. ⌜ r ≡ pairMask start stop ⌝ }
+    ensures { λ r. ⌜ r ≡ swapped (columnMask start stop) ⌝ }
 {
-    (65535u16 >> start) & !(65535u16 >> stop)
+    swapped((65535u16 >> start) & !(65535u16 >> stop))
 }
 
-// Two bytes whose bits under the mask are those of two others.
+// A pair whose bits under the mask are those of another: by `^`, which needs no inverted mask at hand.
 fn blended(old: u16, mask: u16, bits: u16) -> u16
     ensures { λ r. ⌜ BlendedPair old mask bits r ⌝ }
 {
-    (old & !mask) | (bits & mask)
+    ((old ^ bits) & mask) ^ old
 }
 
-// Where a mask has a 1, the pixels of byte number `at` and of the next one as those of two bytes.
-fn paint_pair(framebuffer: &mut [u8], at: usize, mask: u16, bits: u16)
+// Where a mask has a 1, the pixels of byte number `at` and of the next one as sixteen columns.
+fn paint_pair(framebuffer: &mut [u8], at: usize, mask: u16, columns: u16)
     requires { ⌜ at + 1 < length (now framebuffer) ⌝ }
-    ensures { λ _. ⌜ now (framebuffer .exit) ≡ putPair at mask bits (now (framebuffer .entry)) ⌝ }
+    ensures { λ _. ⌜ now (framebuffer .exit) ≡ putPair at mask (swapped columns) (now (framebuffer .entry)) ⌝ }
 {
-    let both = blended(pair_at(framebuffer, at), mask, bits);
-    framebuffer[at] = (both / 256) as u8;
-    framebuffer[at + 1] = (both % 256) as u8;
+    let both = blended(pair_at(framebuffer, at), mask, swapped(columns));
+    framebuffer[at] = (both % 256) as u8;
+    framebuffer[at + 1] = (both / 256) as u8;
 }
 
 // Columns x1 up to, and not with, x2 of rows from y1 on: as many of them as are short, lie in two bytes of the framebuffer
@@ -81,7 +89,7 @@ fn paint_short(
         return 0;
     }
     let last = bits.len() - 1;
-    let end = rows_between(framebuffer.len(), y1, y2).to;
+    let end = row_start(framebuffer.len(), y2);
     let start = x1 % 8;
     let mask = pair_mask(start, start + (x2 - x1));
     let mut rows = 0;
@@ -91,12 +99,8 @@ fn paint_short(
         if last <= k / 8 {
             return rows;
         }
-        paint_pair(
-            framebuffer,
-            at,
-            mask,
-            (pair_at(bits, k / 8) << (k % 8)) >> start,
-        );
+        let columns = swapped(pair_at(bits, k / 8)) << (k % 8);
+        paint_pair(framebuffer, at, mask, columns >> start);
         rows += 1;
         at += STRIDE;
         k += w as usize;
@@ -195,12 +199,9 @@ fn paint_byte(framebuffer: &mut [u8], x1: u16, x2: u16, y: u16, byte: u8)
         let at = cell(x1, y);
         if at + 1 < framebuffer.len() {
             let start = x1 % 8;
-            paint_pair(
-                framebuffer,
-                at,
-                pair_mask(start, start + (right - x1)),
-                (256 * word(byte)) >> start,
-            );
+            let mask = pair_mask(start, start + (right - x1));
+            let columns = 256 * word(byte);
+            paint_pair(framebuffer, at, mask, columns >> start);
         } else {
             paint_cell(framebuffer, x1, right, y, byte);
         }

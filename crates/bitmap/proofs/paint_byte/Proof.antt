@@ -25,8 +25,8 @@ pair-mask-requires c κs = search needs
 word-requires : tie.Need-word-requires
 word-requires c κs = search needs
 
-mul-paint-pair : tie.Need-mul-paint-pair
-mul-paint-pair c = search needs
+mul-columns : tie.Need-mul-columns
+mul-columns c = search needs
 
 shr-paint-pair : tie.Need-shr-paint-pair
 shr-paint-pair c = search needs
@@ -44,8 +44,8 @@ returns : tie.Need-returns
 returns c =
     let a = c .before .before .before .before .before .before .before .before .before .before .before .args in
     byte-painted (a .framebuffer .now) (a .x1) (a .x2) (a .y) _ _ (a .byte) (c .before .before .before .before .before .before .before .before .before .least .ensures) (c .before .before .before .before .before .before .before .cell .ensures) _
-    (λ i. c .before .before .before .before .before .before .before .before .before .before .slice-known .given i .fits) (search needs) (search needs) refl
-    (c .before .before .before .before .pair-mask .ensures) (c .before .before .before .word .ensures .0) (c .before .before .paint-pair .ensures)
+    (λ i. c .before .before .before .before .before .before .before .before .before .before .slice-known .given i .fits) (search needs) (search needs) (search needs) refl
+    (c .before .before .before .before .before .pair-mask .ensures) (c .before .before .before .before .word .ensures .0) (c .before .before .paint-pair .ensures)
 
 same-length-2 : tie.Need-same-length-2
 same-length-2 c = search needs
@@ -72,7 +72,7 @@ paint-byte-spec =
     add-pair-mask
     pair-mask-requires
     word-requires
-    mul-paint-pair
+    mul-columns
     shr-paint-pair
     paint-pair-requires
     paint-cell-requires

@@ -1,8 +1,8 @@
-use Rattle.bitmap.proofs.Short.{two-there, ShortRows, short-none, short-start, short-more, short-step}
-use Prim.Native.Nat.{_-_}
 use mathlib.Core.Path.{refl}
+use Prim.Native.Nat.{_-_}
 use native.Mathlib.Omega.{arith}
 use borrow.Author.Needs.{needs}
+use Rattle.bitmap.proofs.Short.{two-there, ShortRows, short-none, short-start, short-more, short-step}
 use Rattle.bitmap.proofs.paint_short.Statement.{statement}
 use Rattle.bitmap.proofs.paint_short.Tie as tie
 
@@ -27,8 +27,8 @@ returns-3 c = let a = c .before .before .before .before .before .args in (short-
 sub-last : tie.Need-sub-last Inv-loop μ-loop
 sub-last c = search needs
 
-rows-between-requires : tie.Need-rows-between-requires Inv-loop μ-loop
-rows-between-requires c κs = search needs
+row-start-requires : tie.Need-row-start-requires Inv-loop μ-loop
+row-start-requires c κs = search needs
 
 sub-pair-mask : tie.Need-sub-pair-mask Inv-loop μ-loop
 sub-pair-mask c = search needs
@@ -57,34 +57,37 @@ returns-4 c = (c .before .before .loop .inv .shows, c .before .before .loop .inv
 pair-at-requires : tie.Need-pair-at-requires Inv-loop μ-loop
 pair-at-requires c κs = two-there (search needs)
 
-cast-paint-pair : tie.Need-cast-paint-pair Inv-loop μ-loop
-cast-paint-pair c = search needs
+swapped-requires : tie.Need-swapped-requires Inv-loop μ-loop
+swapped-requires c κs = search needs
 
-shl-paint-pair : tie.Need-shl-paint-pair Inv-loop μ-loop
-shl-paint-pair c = search needs
+cast-columns : tie.Need-cast-columns Inv-loop μ-loop
+cast-columns c = search needs
+
+shl-columns : tie.Need-shl-columns Inv-loop μ-loop
+shl-columns c = search needs
 
 shr-paint-pair : tie.Need-shr-paint-pair Inv-loop μ-loop
 shr-paint-pair c = search needs
 
 paint-pair-requires : tie.Need-paint-pair-requires Inv-loop μ-loop
-paint-pair-requires c κs = short-more (c .before .before .before .before .loop .inv) (c .before .before .before .before .before .before .before .rows-between .ensures .to-is) (search needs) .1
+paint-pair-requires c κs = short-more (c .before .before .before .before .before .loop .inv) (c .before .before .before .before .before .before .before .before .row-start .ensures) (search needs) .1
 
 add-rows : tie.Need-add-rows Inv-loop μ-loop
-add-rows c = omega (arith, short-more (c .before .before .before .before .before .before .before .loop .inv) (c .before .before .before .before .before .before .before .before .before .before .rows-between .ensures .to-is) (search needs) .0)
+add-rows c = omega (arith, short-more (c .before .before .before .before .before .before .before .before .loop .inv) (c .before .before .before .before .before .before .before .before .before .before .before .row-start .ensures) (search needs) .0)
 
 add-at : tie.Need-add-at Inv-loop μ-loop
-add-at c = omega (arith, c .before .before .before .before .before .before .before .loop .inv .at-byte, c .before .before .before .before .before .before .before .loop .inv .high)
+add-at c = omega (arith, c .before .before .before .before .before .before .before .before .loop .inv .at-byte, c .before .before .before .before .before .before .before .before .loop .inv .high)
 
 add-k : tie.Need-add-k Inv-loop μ-loop
-add-k c = omega (arith, c .before .before .before .before .before .before .before .loop .inv .bound, c .before .before .before .before .before .before .before .loop .inv .high)
+add-k c = omega (arith, c .before .before .before .before .before .before .before .before .loop .inv .bound, c .before .before .before .before .before .before .before .before .loop .inv .high)
 
 loop-less : tie.Need-loop-less Inv-loop μ-loop
-loop-less c = omega (arith, short-more (c .before .before .before .before .before .before .before .loop .inv) (c .before .before .before .before .before .before .before .before .before .before .rows-between .ensures .to-is) (search needs) .0)
+loop-less c = omega (arith, short-more (c .before .before .before .before .before .before .before .before .loop .inv) (c .before .before .before .before .before .before .before .before .before .before .before .row-start .ensures) (search needs) .0)
 
 loop-again : tie.Need-loop-again Inv-loop μ-loop
 loop-again c =
-    short-step (c .before .before .before .before .before .before .before .loop .inv) (search needs) (search needs) (search needs) (short-more (c .before .before .before .before .before .before .before .loop .inv) (c .before .before .before .before .before .before .before .before .before .before .rows-between .ensures .to-is) (search needs) .0)
-    (λ i. c .before .before .before .before .before .before .before .before .before .before .before .before .before .before .shared-slice-known .given i .fits) (search needs) refl (c .before .before .before .before .before .before .before .before .before .pair-mask .ensures) (c .before .before .before .pair-at .ensures) (c .before .before .paint-pair .ensures)
+    short-step (c .before .before .before .before .before .before .before .before .loop .inv) (search needs) (search needs) (search needs) (short-more (c .before .before .before .before .before .before .before .before .loop .inv) (c .before .before .before .before .before .before .before .before .before .before .before .row-start .ensures) (search needs) .0)
+    (λ i. c .before .before .before .before .before .before .before .before .before .before .before .before .before .before .before .shared-slice-known .given i .fits) (search needs) refl (c .before .before .before .before .before .before .before .before .before .before .pair-mask .ensures) (c .before .before .before .before .before .pair-at .ensures) (c .before .before .before .before .swapped .ensures) (c .before .before .paint-pair .ensures)
 
 same-length-2 : tie.Need-same-length-2 Inv-loop μ-loop
 same-length-2 c = search needs
@@ -103,7 +106,7 @@ paint-short-spec =
     returns-2
     returns-3
     sub-last
-    rows-between-requires
+    row-start-requires
     sub-pair-mask
     add-pair-mask
     pair-mask-requires
@@ -113,8 +116,9 @@ paint-short-spec =
     same-length
     returns-4
     pair-at-requires
-    cast-paint-pair
-    shl-paint-pair
+    swapped-requires
+    cast-columns
+    shl-columns
     shr-paint-pair
     paint-pair-requires
     add-rows

@@ -9,9 +9,6 @@ shared-slice-read-word c = search needs
 word-requires : tie.Need-word-requires
 word-requires c κs = search needs
 
-mul-result : tie.Need-mul-result
-mul-result c = search needs
-
 add-word : tie.Need-add-word
 add-word c = search needs
 
@@ -20,6 +17,9 @@ shared-slice-read-word-2 c = search needs
 
 word-requires-2 : tie.Need-word-requires-2
 word-requires-2 c κs = search needs
+
+mul-result : tie.Need-mul-result
+mul-result c = search needs
 
 add-result : tie.Need-add-result
 add-result c = search needs
@@ -33,9 +33,9 @@ pair-at-spec =
     (tie.spec
     shared-slice-read-word
     word-requires
-    mul-result
     add-word
     shared-slice-read-word-2
     word-requires-2
+    mul-result
     add-result
     returns)

@@ -1,18 +1,20 @@
-use mathlib.Core.Path.{refl}
-use Rattle.bitmap.specs.Pairs.{pairMask}
+use Rattle.bitmap.specs.Pairs.{columnMask}
 use borrow.Author.Needs.{needs}
 use Rattle.bitmap.proofs.pair_mask.Statement.{statement}
 use Rattle.bitmap.proofs.pair_mask.Tie as tie
 
-shr-result : tie.Need-shr-result
-shr-result c = search needs
+shr-swapped : tie.Need-shr-swapped
+shr-swapped c = search needs
 
-shr-result-2 : tie.Need-shr-result-2
-shr-result-2 c = search needs
+shr-swapped-2 : tie.Need-shr-swapped-2
+shr-swapped-2 c = search needs
+
+swapped-requires : tie.Need-swapped-requires
+swapped-requires c κs = search needs
 
 returns : tie.Need-returns
-unfolding pairMask
-returns c = refl
+unfolding columnMask
+returns c = c .swapped .ensures
 
 pub pair-mask-spec : {M : Type 1} → statement M
-pair-mask-spec = tie.close (tie.spec shr-result shr-result-2 returns)
+pair-mask-spec = tie.close (tie.spec shr-swapped shr-swapped-2 swapped-requires returns)
