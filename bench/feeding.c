@@ -18,16 +18,17 @@ static void run(const void *what, unsigned long times)
         feed_stream(f->side, f->stream, f->piece);
 }
 
-static const char *verdict(double to_independent, double to_plain)
+static const char *verdict(int to_independent, int to_plain)
 {
-    if (to_independent <= 1 && to_plain <= 1)
+    if (to_independent && to_plain)
         return "met";
-    if (to_independent <= 1)
-        return "slower than plain C";
-    return to_plain <= 1 ? "slower than the independent one" : "slower than both";
+    if (to_independent)
+        return "not met to plain C";
+    return to_plain ? "not met to the independent one" : "met to neither";
 }
 
-static void print_row(const char *name, const Stream *setup, const Stream *timed, size_t piece, double shortest)
+static void print_row(const char *name, const Stream *setup, const Stream *timed, size_t piece, double goal,
+                      double shortest)
 {
     Feeding feedings[SIDES];
     Runner runners[SIDES];
@@ -44,7 +45,7 @@ static void print_row(const char *name, const Stream *setup, const Stream *timed
     printf("| %s | %lu | %.1f |", name, (unsigned long)piece, ns[OURS]);
     for (i = OURS + 1; i < SIDES; i++)
         printf(" %.1f | %.2f |", ns[i], ns[OURS] / ns[i]);
-    printf(" 1.00 | %s |\n", verdict(ns[OURS] / ns[INDEPENDENT], ns[OURS] / ns[PLAIN_PIXELS]));
+    printf(" %.2f | %s |\n", goal, verdict(ns[OURS] <= ns[INDEPENDENT], ns[OURS] <= goal * ns[PLAIN_PIXELS]));
     fflush(stdout);
 }
 
@@ -52,18 +53,18 @@ void print_feeding(double shortest)
 {
     static Stream setup, timed;
     size_t i;
-    printf("display_feed, ns a byte. Goal: no ratio to the independent implementation or to plain C above 1.\n\n"
+    printf("display_feed, ns a byte. Goal: the ratio to plain C; that to the independent implementation is 1.\n\n"
            "| Stream | Piece | Ours | Independent | Ratio | Plain C | Ratio | Plain C by bytes | Ratio | Goal "
            "| Today |\n"
            "|---|---|---|---|---|---|---|---|---|---|---|\n");
     mixed(&timed);
-    print_row("mixed", &setup, &timed, PIECE, shortest);
-    print_row("mixed", &setup, &timed, 1, shortest);
+    print_row("mixed", &setup, &timed, PIECE, 1, shortest);
+    print_row("mixed", &setup, &timed, 1, 1, shortest);
     for (i = 0; i < family_count; i++) {
         setup.length = timed.length = 0;
         families[i].setup(&setup);
         families[i].timed(&timed);
-        print_row(families[i].name, &setup, &timed, PIECE, shortest);
+        print_row(families[i].name, &setup, &timed, PIECE, families[i].goal, shortest);
     }
     printf("\n");
 }

@@ -16,6 +16,9 @@ typedef struct {
     size_t length, count;
 } Repeated;
 
+// The goal of a call that has one in instructions.
+enum { COUNTED = 0 };
+
 static uint8_t glass[DISPLAY_FRAMEBUFFER_SIZE];
 
 static Repeated *repeated(int side, const uint8_t *command, size_t length)
@@ -95,8 +98,11 @@ static void loop_pixman(const void *what, unsigned long times)
 static void print_row(const char *name, double ours, const char *other, double theirs, double goal)
 {
     double ratio = ours / theirs;
-    printf("| %s | %.1f | %s | %.1f | %.*f | %.0f | %s |\n", name, 1e9 * ours, other, 1e9 * theirs, ratio < 1 ? 3 : 1,
-           ratio, goal, met(ratio <= goal));
+    printf("| %s | %.1f | %s | %.1f | %.*f | ", name, 1e9 * ours, other, 1e9 * theirs, ratio < 1 ? 3 : 1, ratio);
+    if (goal == COUNTED)
+        printf("in instructions | |\n");
+    else
+        printf("%.0f | %s |\n", goal, met(ratio <= goal));
 }
 
 // Every way must leave the same picture, or it is not worth timing.
@@ -134,24 +140,15 @@ static void print_fill(const char *name, const Repeated *r, bool black, double s
 }
 
 // Ours beside another that does the same, `count` times at each run.
-static void print_pair(const char *name, Runner ours, const char *other, Runner theirs, double count, double shortest)
+static void print_pair(const char *name, Runner ours, const char *other, Runner theirs, double count, double goal,
+                       double shortest)
 {
     Runner runners[2];
     runners[0] = ours;
     runners[1] = theirs;
     race(runners, 2, shortest);
-    print_row(name, runners[0].seconds / count, other, runners[1].seconds / count, 1);
+    print_row(name, runners[0].seconds / count, other, runners[1].seconds / count, goal);
     fflush(stdout);
-}
-
-// As many files as the directory holds, of one byte each.
-static void fill_directory(const Side *side)
-{
-    uint8_t replies[REPLIES], n;
-    for (n = 0; n < PLAIN_FILES; n++) {
-        uint8_t command[] = {COMMAND, UPLOAD_BITMAP, n, 1, 0, 0, CONFIRM};
-        side->feed(command, sizeof command, replies);
-    }
 }
 
 static void print_overheads(double shortest)
@@ -161,13 +158,13 @@ static void print_overheads(double shortest)
     Repeated *plain_colour = REPEATED(PLAIN_PIXELS, COMMAND, DRAWING_COLOUR, 1);
     Runner nothing = {feed_nothing, &sides[OURS], 0}, plain_nothing = {feed_nothing, &sides[PLAIN_PIXELS], 0};
     print_pair("a command that paints nothing, `254 99 1`", (Runner){feed_repeated, colour, 0}, "plain C",
-               (Runner){feed_repeated, plain_colour, 0}, (double)colour->count, shortest);
-    print_pair("a feed of no bytes, no files", nothing, "plain C", plain_nothing, 1, shortest);
+               (Runner){feed_repeated, plain_colour, 0}, (double)colour->count, 3, shortest);
+    print_pair("a feed of no bytes, no files", nothing, "plain C", plain_nothing, 1, COUNTED, shortest);
     fill_directory(&sides[OURS]);
     fill_directory(&sides[PLAIN_PIXELS]);
-    print_pair("a feed of no bytes, 63 files", nothing, "plain C", plain_nothing, 1, shortest);
+    print_pair("a feed of no bytes, 63 files", nothing, "plain C", plain_nothing, 1, COUNTED, shortest);
     print_pair("arrive and take, a byte", (Runner){queue_bytes, &ours, 0}, "the independent one",
-               (Runner){queue_bytes, &theirs, 0}, 1, shortest);
+               (Runner){queue_bytes, &theirs, 0}, 1, COUNTED, shortest);
     free(colour);
     free(plain_colour);
 }

@@ -123,11 +123,11 @@ void print_footprint(const Footprint *f)
            "| What | Ours | Goal | Why | Today |\n|---|---|---|---|---|\n");
     print_row("code and constants in the archive", f->archive, 65536, "half the flash is the driver's");
     print_row("the same, linked by a program of all four calls", f->linked, 65536, "half the flash is the driver's");
-    print_row("stack of display_feed", fed - none, 4096,
-              "a fifth of the RAM; glass, records, a store of 8 KiB and the driver share the rest");
-    print_row("stack of display_start", started - none, 4096, "as display_feed");
-    print_row("stack of display_arrive", arrived - none, 1024, "called for every byte, maybe on a handler's stack");
-    print_row("stack of display_take", taken - none, 1024, "as display_arrive");
+    print_row("stack of display_feed", fed - none, 2048,
+              "a tenth of the RAM; glass, records, a store of 8 KiB and the driver share the rest");
+    print_row("stack of display_start", started - none, 2048, "as display_feed");
+    print_row("stack of display_arrive", arrived - none, 512, "called for every byte, maybe on a handler's stack");
+    print_row("stack of display_take", taken - none, 512, "as display_arrive");
     snprintf(frame, sizeof frame, "largest frame of one function, %s", f->function);
-    print_row(frame, f->frame, 1024, "a quarter of the stack");
+    print_row(frame, f->frame, 1024, "half of the stack");
 }

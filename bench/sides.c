@@ -1,5 +1,6 @@
 #include "sides.h"
 
+#include "commands.h"
 #include "display.h"
 #include "plain.h"
 
@@ -132,6 +133,15 @@ void feed_stream(const Side *side, const Stream *s, size_t piece)
     size_t at;
     for (at = 0; at < s->length; at += piece)
         side->feed(s->bytes + at, s->length - at < piece ? s->length - at : piece, replies);
+}
+
+void fill_directory(const Side *side)
+{
+    uint8_t replies[REPLIES], n;
+    for (n = 0; n < PLAIN_FILES; n++) {
+        uint8_t command[] = {COMMAND, UPLOAD_BITMAP, n, 1, 0, 0, CONFIRM};
+        side->feed(command, sizeof command, replies);
+    }
 }
 
 // One piece to all sides.

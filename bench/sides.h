@@ -30,6 +30,9 @@ extern uint8_t our_glass[], our_store[], our_state[], our_queue[];
 // Feeds a stream in pieces of this length, the replies unread.
 void feed_stream(const Side *side, const Stream *s, size_t piece);
 
+// As many files as the directory holds, of one byte each.
+void fill_directory(const Side *side);
+
 // Starts all sides and feeds them both streams; ends the program where a reply or a glass differs after any piece, or
 // where the library refused anything.
 void check_agreement(const char *name, const Stream *setup, const Stream *timed);

@@ -176,16 +176,16 @@ static void nothing(Stream *s)
 }
 
 const Family families[] = {
-    {"text", nothing, text_page},
-    {"text that scrolls", nothing, scrolled_text},
-    {"bars", nothing, bars},
-    {"rectangles and frames", nothing, rectangles},
-    {"lines", nothing, lines},
-    {"pixels", nothing, pixels},
-    {"strips", text_page, strips},
-    {"saved bitmaps", upload, saved_bitmaps},
-    {"in-line bitmaps", nothing, inline_bitmaps},
-    {"upload and delete", nothing, upload_and_delete},
+    {"text", nothing, text_page, 1},
+    {"text that scrolls", nothing, scrolled_text, 1},
+    {"bars", nothing, bars, 1},
+    {"rectangles and frames", nothing, rectangles, 1},
+    {"lines", nothing, lines, 1.2},
+    {"pixels", nothing, pixels, 3},
+    {"strips", text_page, strips, 1},
+    {"saved bitmaps", upload, saved_bitmaps, 1},
+    {"in-line bitmaps", nothing, inline_bitmaps, 1.2},
+    {"upload and delete", nothing, upload_and_delete, 3},
 };
 const size_t family_count = sizeof families / sizeof *families;
 

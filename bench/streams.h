@@ -13,10 +13,11 @@ typedef struct {
 
 typedef void Build(Stream *);
 
-// A family: what is sent before it, and what is timed.
+// A family: what is sent before it, what is timed, and how many times plain C's time it may take.
 typedef struct {
     const char *name;
     Build *setup, *timed;
+    double goal;
 } Family;
 
 extern const Family families[];

@@ -1,3 +1,5 @@
 pub mod Bits
 pub mod Examples
 pub mod Footprint
+pub mod Pairs
+pub mod Short

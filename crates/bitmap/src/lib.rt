@@ -1,21 +1,117 @@
 // Bitmaps: packed ones (glyphs, saved bitmaps) and data in line. What lies beyond the framebuffer is clipped.
+// Up to eight columns of a row lie in two bytes, which are painted at once; more of them go byte by byte.
+use canvas::STRIDE;
 use canvas::WIDTH;
+use canvas::cell;
 use canvas::least;
+use canvas::row_start;
 use canvas::rows_between;
 use spans::cell_end;
 use spans::paint_cell;
 use spans::window;
 ghost use mathlib.Core.Path.{_≡_};
-ghost use Prim.Native.Nat.{_*_, _≤_};
-ghost use Rattle.pixels.specs.Framebuffer.{put};
+ghost use Prim.Native.Nat.{_+_, _-_, _*_, _/_, _<_, _≤_};
+ghost use lib.ListN.{length};
+ghost use Rattle.pixels.specs.Framebuffer.{put, width};
 ghost use Rattle.pixels.specs.Regions.{span, box};
+ghost use Rattle.spans.specs.Bits.{bitsFrom};
+ghost use Rattle.bitmap.specs.Pairs.{pairOf, swapped, columnMask, putPair, BlendedPair, rowBits, packedFrom};
 ghost use Rattle.bitmap.specs.Inline.{PlaceIs};
 ghost use Rattle.bitmap.specs.Bitmaps.{packed, packedBox, inlineByte};
 
+fn word(x: u8) -> u16
+    ensures { λ r. ⌜ (r ≡ x) × (r < 256) ⌝ }
+{
+    x as u16
+}
+
+// Two bytes as one number, the first byte the lower.
+fn pair_at(bytes: &[u8], at: usize) -> u16
+    requires { ⌜ at + 1 < length (now bytes) ⌝ }
+    ensures { λ r. ⌜ r ≡ pairOf (now (bytes .entry)) at ⌝ }
+{
+    word(bytes[at]) + 256 * word(bytes[at + 1])
+}
+
+// The two bytes in each other's place: a pair as sixteen columns, the leftmost the highest bit, or columns as a pair.
+fn swapped(n: u16) -> u16
+    ensures { λ r. ⌜ r ≡ swapped n ⌝ }
+{
+    256 * (n % 256) + n / 256
+}
+
+// The pair whose bits in columns `start` up to, and not with, `stop` are set.
+fn pair_mask(start: u16, stop: u16) -> u16
+    requires { ⌜ (start < 16) × (stop < 16) ⌝ }
+    ensures { λ r. ⌜ r ≡ swapped (columnMask start stop) ⌝ }
+{
+    swapped((65535u16 >> start) & !(65535u16 >> stop))
+}
+
+// A pair whose bits under the mask are those of another: by `^`, which needs no inverted mask at hand.
+fn blended(old: u16, mask: u16, bits: u16) -> u16
+    ensures { λ r. ⌜ BlendedPair old mask bits r ⌝ }
+{
+    ((old ^ bits) & mask) ^ old
+}
+
+// Where a mask has a 1, the pixels of byte number `at` and of the next one as sixteen columns.
+fn paint_pair(framebuffer: &mut [u8], at: usize, mask: u16, columns: u16)
+    requires { ⌜ at + 1 < length (now framebuffer) ⌝ }
+    ensures { λ _. ⌜ now (framebuffer .exit) ≡ putPair at mask (swapped columns) (now (framebuffer .entry)) ⌝ }
+{
+    let both = blended(pair_at(framebuffer, at), mask, swapped(columns));
+    framebuffer[at] = (both % 256) as u8;
+    framebuffer[at + 1] = (both / 256) as u8;
+}
+
+// Columns x1 up to, and not with, x2 of rows from y1 on: as many of them as are short, lie in two bytes of the framebuffer
+// above row y2, and begin in two bytes of the bits. The answer is their number.
+fn paint_short(
+    framebuffer: &mut [u8],
+    x1: u16,
+    x2: u16,
+    y1: u16,
+    y2: u16,
+    w: u8,
+    bits: &[u8],
+) -> u16
+    requires { ⌜ (x2 ≤ width) × (y1 ≤ y2) × (y2 < 1024) ⌝ }
+    ensures { λ r. ⌜ (now (framebuffer .exit) ≡ put (box x1 x2 y1 (y1 + r)) (packed x1 y1 w (now (bits .entry))) (now (framebuffer .entry))) × (y1 + r ≤ y2) ⌝ }
+{
+    if x2 <= x1 {
+        return 0;
+    }
+    if x2 - x1 > 8 {
+        return 0;
+    }
+    if bits.len() == 0 {
+        return 0;
+    }
+    let last = bits.len() - 1;
+    let end = row_start(framebuffer.len(), y2);
+    let start = x1 % 8;
+    let mask = pair_mask(start, start + (x2 - x1));
+    let mut rows = 0;
+    let mut at = cell(x1, y1);
+    let mut k = 0;
+    while at + 1 < end {
+        if last <= k / 8 {
+            return rows;
+        }
+        let columns = swapped(pair_at(bits, k / 8)) << (k % 8);
+        paint_pair(framebuffer, at, mask, columns >> start);
+        rows += 1;
+        at += STRIDE;
+        k += w as usize;
+    }
+    rows
+}
+
 // Columns x1 up to, and not with, x2 of row y, from bit number `first` on.
-fn paint_row(rows: &mut [u8], x1: u16, x2: u16, y: u16, w: u8, first: usize, bits: &[u8])
-    requires { ⌜ (first ≡ y * w) × (first ≤ 255 * y) ⌝ }
-    ensures { λ _. ⌜ now (rows .exit) ≡ put (span x1 x2 y) (packed x1 0 w (now (bits .entry))) (now (rows .entry)) ⌝ }
+fn paint_row(rows: &mut [u8], x1: u16, x2: u16, y: u16, first: usize, bits: &[u8])
+    requires { ⌜ first < 4294967296 ⌝ }
+    ensures { λ _. ⌜ now (rows .exit) ≡ put (span x1 x2 y) (rowBits first x1 (now (bits .entry))) (now (rows .entry)) ⌝ }
 {
     let mut x = x1;
     let mut k = first;
@@ -27,28 +123,46 @@ fn paint_row(rows: &mut [u8], x1: u16, x2: u16, y: u16, w: u8, first: usize, bit
     }
 }
 
-// Columns x1 up to, and not with, x2 of the first n rows that are lent, each row w bits further on.
-fn paint_rows(rows: &mut [u8], x1: u16, x2: u16, n: u16, w: u8, bits: &[u8])
-    ensures { λ _. ⌜ now (rows .exit) ≡ put (box x1 x2 0 n) (packed x1 0 w (now (bits .entry))) (now (rows .entry)) ⌝ }
+// Columns x1 up to, and not with, x2 of the first n rows that are lent, from bit number `first` on, each row w bits further on.
+fn paint_rows(rows: &mut [u8], x1: u16, x2: u16, n: u16, w: u8, first: usize, bits: &[u8])
+    requires { ⌜ first < 65536 * 256 ⌝ }
+    ensures { λ _. ⌜ now (rows .exit) ≡ put (box x1 x2 0 n) (packedFrom first x1 0 w (now (bits .entry))) (now (rows .entry)) ⌝ }
 {
     let mut y = 0;
-    let mut first = 0;
+    let mut k = first;
     while y < n {
-        paint_row(rows, x1, x2, y, w, first, bits);
+        paint_row(rows, x1, x2, y, k, bits);
         y += 1;
-        first += w as usize;
+        k += w as usize;
     }
 }
 
-// Columns x1 up to, and not with, x2 of rows y1 up to, and not with, y2 of a bitmap of rows of w bits: only those rows are lent on.
-fn paint_bits(framebuffer: &mut [u8], x1: u16, x2: u16, y1: u16, y2: u16, w: u8, bits: &[u8])
-    ensures { λ _. ⌜ now (framebuffer .exit) ≡ put (box x1 x2 y1 y2) (packed x1 y1 w (now (bits .entry))) (now (framebuffer .entry)) ⌝ }
+// Columns x1 up to, and not with, x2 of rows y1 up to, and not with, y2, from bit number `first` on: only those rows are lent on.
+fn paint_bits(
+    framebuffer: &mut [u8],
+    x1: u16,
+    x2: u16,
+    y1: u16,
+    y2: u16,
+    w: u8,
+    first: usize,
+    bits: &[u8],
+)
+    requires { ⌜ (first < 65536 * 256) × (x2 ≤ width) ⌝ }
+    ensures { λ _. ⌜ now (framebuffer .exit) ≡ put (box x1 x2 y1 y2) (packedFrom first x1 y1 w (now (bits .entry))) (now (framebuffer .entry)) ⌝ }
 {
     let rows = rows_between(framebuffer.len(), y1, y2);
     let from = rows.from;
     let to = rows.to;
-    let right = least(x2, WIDTH);
-    paint_rows(&mut framebuffer[from..to], x1, right, rows.count, w, bits);
+    paint_rows(
+        &mut framebuffer[from..to],
+        x1,
+        x2,
+        rows.count,
+        w,
+        first,
+        bits,
+    );
 }
 
 // A glyph or a saved bitmap of w by h bits, its upper left corner at (x, y).
@@ -56,8 +170,41 @@ pub fn paint_packed(framebuffer: &mut [u8], x: u16, y: u8, w: u8, h: u8, bits: &
     ensures { λ _. ⌜ now (framebuffer .exit) ≡ packedBox x y w h (now (bits .entry)) (now (framebuffer .entry)) ⌝ }
 {
     if x < WIDTH {
+        let right = least(x + w as u16, WIDTH);
         let top = y as u16;
-        paint_bits(framebuffer, x, x + w as u16, top, top + h as u16, w, bits);
+        let bottom = top + h as u16;
+        let done = paint_short(framebuffer, x, right, top, bottom, w, bits);
+        if top + done < bottom {
+            paint_bits(
+                framebuffer,
+                x,
+                right,
+                top + done,
+                bottom,
+                w,
+                done as usize * (w as usize),
+                bits,
+            );
+        }
+    }
+}
+
+// Columns x1 up to, and not with, x2 of row y, at most eight of them, from the highest bit of a byte on.
+fn paint_byte(framebuffer: &mut [u8], x1: u16, x2: u16, y: u16, byte: u8)
+    requires { ⌜ (x2 ≤ x1 + 8) × (x2 ≤ 256) ⌝ }
+    ensures { λ _. ⌜ now (framebuffer .exit) ≡ put (span x1 x2 y) (bitsFrom x1 byte) (now (framebuffer .entry)) ⌝ }
+{
+    let right = least(x2, WIDTH);
+    if x1 < right {
+        let at = cell(x1, y);
+        if at + 1 < framebuffer.len() {
+            let start = x1 % 8;
+            let mask = pair_mask(start, start + (right - x1));
+            let columns = 256 * word(byte);
+            paint_pair(framebuffer, at, mask, columns >> start);
+        } else {
+            paint_cell(framebuffer, x1, right, y, byte);
+        }
     }
 }
 
@@ -90,8 +237,7 @@ pub fn paint_inline(framebuffer: &mut [u8], x1: u8, y1: u8, x2: u8, y2: u8, k: u
             let x = place.x;
             let y = place.y as u16;
             let end = least(x + 8, x2 as u16 + 1);
-            let bits = [byte];
-            paint_bits(framebuffer, x, end, y, y + 1, 8, &bits);
+            paint_byte(framebuffer, x, end, y, byte);
         }
     }
 }

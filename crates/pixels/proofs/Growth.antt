@@ -71,10 +71,10 @@ module _ {x1 x2 y : ℕ} {p : Picture} {g₀ : List ℕ} where
   span-end {x} s l =
       s .shows ∙ put-region (span x1 x y) (span x1 x2 y) p g₀ (λ u v on. rw (within-iff x1 x u x1 x2 u (omega arith) (omega arith)))
 
-box-none : (x1 x2 y : ℕ) (p : Picture) (g : List ℕ) → Bytes g → g ≡ put (box x1 x2 y y) p g
+pub box-none : (x1 x2 y : ℕ) (p : Picture) (g : List ℕ) → Bytes g → g ≡ put (box x1 x2 y y) p g
 box-none x1 x2 y p g b = put-off (box x1 x2 y y) p g b (λ u v on. rw (within-none y v) (and-false (within x1 x2 u)))
 
-box-more : (x1 x2 y1 y : ℕ) (p : Picture) (g : List ℕ) → y1 ≤ y
+pub box-more : (x1 x2 y1 y : ℕ) (p : Picture) (g : List ℕ) → y1 ≤ y
     → put (span x1 x2 y) p (put (box x1 x2 y1 y) p g) ≡ put (box x1 x2 y1 (y + 1)) p g
 box-more x1 x2 y1 y p g h =
     put-put (box x1 x2 y1 y) (span x1 x2 y) p g

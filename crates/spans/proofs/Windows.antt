@@ -15,7 +15,7 @@ pub behind : (bits : List ℕ) (i : ℕ) → length bits ≤ i → 0 ≡ getD bi
 behind bits i h = sym (List·getD-eq-default bits 0 {n = i} h)
 
 -- a low bit of a number is one of its remainder
-low-bit : (n j : ℕ) → j < 8 → n % 256 / 2 ^ j % 2 ≡ n / 2 ^ j % 2
+pub low-bit : (n j : ℕ) → j < 8 → n % 256 / 2 ^ j % 2 ≡ n / 2 ^ j % 2
 low-bit n zero h = omega arith
 low-bit n (suc zero) h = omega arith
 low-bit n (suc (suc zero)) h = omega arith

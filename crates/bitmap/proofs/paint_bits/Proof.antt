@@ -6,9 +6,6 @@ use Rattle.bitmap.proofs.paint_bits.Tie as tie
 rows-between-requires : tie.Need-rows-between-requires
 rows-between-requires c κs = search needs
 
-least-requires : tie.Need-least-requires
-least-requires c κs = search needs
-
 sub-paint-rows : tie.Need-sub-paint-rows
 sub-paint-rows c = search needs
 
@@ -25,14 +22,16 @@ same-length : tie.Need-same-length
 same-length c = search needs
 
 returns : tie.Need-returns
-returns c = let a = c .before .before .before .before .before .before .before .before .args in bits-lent (a .framebuffer .now) _ (a .bits .now) (a .x1) (a .x2) (a .y1) (a .y2) (a .w) (c .before .before .before .before .least .result) (c .before .before .before .before .before .rows-between .result) (λ i. c .before .before .before .before .before .before .before .slice-known .given i .fits) (c .before .before .before .before .before .rows-between .ensures) (c .before .before .before .before .least .ensures) (c .before .before .paint-rows .ensures)
+returns c =
+    let a = c .before .before .before .before .before .before .before .args in
+    bits-lent (a .framebuffer .now) _ (a .bits .now) (a .x1) (a .x2) (a .y1) (a .y2) (a .w) (a .first) (c .before .before .before .before .rows-between .result)
+    (λ i. c .before .before .before .before .before .before .slice-known .given i .fits) (c .before .before .before .before .rows-between .ensures) (search needs) (c .before .before .paint-rows .ensures)
 
 pub paint-bits-spec : {M : Type 1} → statement M
 paint-bits-spec =
     tie.close
     (tie.spec
     rows-between-requires
-    least-requires
     sub-paint-rows
     part-paint-rows-start
     part-paint-rows-end

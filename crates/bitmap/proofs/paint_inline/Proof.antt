@@ -1,4 +1,4 @@
-use Rattle.bitmap.proofs.Bits.{inline-lent, inline-below, inline-none}
+use Rattle.bitmap.proofs.Bits.{inline-painted, inline-below, inline-none}
 use borrow.Author.Needs.{needs}
 use Rattle.bitmap.proofs.paint_inline.Statement.{statement}
 use Rattle.bitmap.proofs.paint_inline.Tie as tie
@@ -18,20 +18,17 @@ add-least-2 c = search needs
 least-requires : tie.Need-least-requires
 least-requires c κs = search needs
 
-add-paint-bits : tie.Need-add-paint-bits
-add-paint-bits c = search needs
-
-slice-aggregate-paint-bits : tie.Need-slice-aggregate-paint-bits
-slice-aggregate-paint-bits c = search needs
-
-paint-bits-requires : tie.Need-paint-bits-requires
-paint-bits-requires c κs = search needs
+paint-byte-requires : tie.Need-paint-byte-requires
+paint-byte-requires c κs = search needs
 
 same-length : tie.Need-same-length
 same-length c = search needs
 
 returns : tie.Need-returns
-returns c = let a = c .before .before .before .before .before .before .before .before .before .before .before .before .args in inline-lent (a .x1) (a .y1) (a .x2) (a .y2) (a .k) (a .byte) (a .framebuffer .now) _ _ _ _ (c .before .before .before .before .before .before .before .before .before .inline-place .ensures .column) (c .before .before .before .before .before .before .before .before .before .inline-place .ensures .row) (c .before .before .before .before .before .least .ensures) (search needs) (c .before .before .paint-bits .ensures)
+returns c =
+    let a = c .before .before .before .before .before .before .before .before .before .before .before .args in
+    inline-painted (a .x1) (a .y1) (a .x2) (a .y2) (a .k) (a .byte) (a .framebuffer .now) _ _ _ _ (c .before .before .before .before .before .before .before .before .inline-place .ensures .column) (c .before .before .before .before .before .before .before .before .inline-place .ensures .row)
+    (c .before .before .before .before .least .ensures) (search needs) (c .before .before .paint-byte .ensures)
 
 returns-2 : tie.Need-returns-2
 returns-2 c = let a = c .before .before .before .before .before .args in inline-below (a .x1) (a .y1) (a .x2) (a .y2) (a .k) (a .byte) (a .framebuffer .now) (a .framebuffer .now) _ _ 0 (c .before .before .inline-place .ensures .column) (c .before .before .inline-place .ensures .row) (λ i. c .before .before .before .before .slice-known .given i .fits) (search needs)
@@ -48,9 +45,7 @@ paint-inline-spec =
     add-least
     add-least-2
     least-requires
-    add-paint-bits
-    slice-aggregate-paint-bits
-    paint-bits-requires
+    paint-byte-requires
     same-length
     returns
     returns-2

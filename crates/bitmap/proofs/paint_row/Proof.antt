@@ -8,13 +8,13 @@ use Rattle.bitmap.proofs.paint_row.Statement.{statement}
 use Rattle.bitmap.proofs.paint_row.Tie as tie
 
 abbrev Inv-loop : tie.InvT-loop
-Inv-loop rows₀ x1 x2 y w first bits x₀ k₀ rows x k = RowOfBits x1 x2 y w x k bits rows₀ rows
+Inv-loop rows₀ x1 x2 y first bits x₀ k₀ rows x k = RowOfBits x1 x2 y first x k bits rows₀ rows
 
 abbrev μ-loop : tie.MeasureT-loop
-μ-loop rows₀ x1 x2 y w first bits x₀ k₀ rows x k = x2 - x
+μ-loop rows₀ x1 x2 y first bits x₀ k₀ rows x k = x2 - x
 
 loop-holds : tie.Need-loop-holds Inv-loop μ-loop
-loop-holds c = row-start (λ i. c .before .slice-known .given i .fits) (search needs)
+loop-holds c = row-start (λ i. c .before .slice-known .given i .fits)
 
 cell-end-requires : tie.Need-cell-end-requires Inv-loop μ-loop
 cell-end-requires c κs = search needs

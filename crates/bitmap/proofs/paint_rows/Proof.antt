@@ -6,10 +6,10 @@ use Rattle.bitmap.proofs.paint_rows.Statement.{statement}
 use Rattle.bitmap.proofs.paint_rows.Tie as tie
 
 abbrev Inv-loop : tie.InvT-loop
-Inv-loop rows₀ x1 x2 n w bits y₀ first₀ rows y first = RowsOfBits x1 x2 n y w first bits rows₀ rows
+Inv-loop rows₀ x1 x2 n w first bits y₀ k₀ rows y k = RowsOfBits x1 x2 n y w first k bits rows₀ rows
 
 abbrev μ-loop : tie.MeasureT-loop
-μ-loop rows₀ x1 x2 n w bits y₀ first₀ rows y first = n - y
+μ-loop rows₀ x1 x2 n w first bits y₀ k₀ rows y k = n - y
 
 loop-holds : tie.Need-loop-holds Inv-loop μ-loop
 loop-holds c = rows-first (λ i. c .before .slice-known .given i .fits)
@@ -20,8 +20,8 @@ paint-row-requires c κs = search needs
 add-y : tie.Need-add-y Inv-loop μ-loop
 add-y c = search needs
 
-add-first : tie.Need-add-first Inv-loop μ-loop
-add-first c = search needs
+add-k : tie.Need-add-k Inv-loop μ-loop
+add-k c = search needs
 
 loop-less : tie.Need-loop-less Inv-loop μ-loop
 loop-less c = search needs
@@ -44,7 +44,7 @@ paint-rows-spec =
     loop-holds
     paint-row-requires
     add-y
-    add-first
+    add-k
     loop-less
     loop-again
     same-length

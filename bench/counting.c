@@ -1,0 +1,96 @@
+// One kind of work, so many times: `run` has callgrind count its instructions. What two times take above one is the work alone.
+#include "display.h"
+#include "sides.h"
+
+#include <stdio.h>
+#include <stdlib.h>
+#include <string.h>
+
+typedef struct {
+    const char *name;
+    unsigned goal;       // instructions of a unit, at most
+    void (*start)(void); // before the work
+    void (*call)(void);  // a unit; NULL: a byte of the stream, in large pieces
+    const char *stream;
+} Work;
+
+static void nothing(void)
+{
+}
+
+static void store_files(void)
+{
+    fill_directory(&sides[OURS]);
+}
+
+static void queue_byte(void)
+{
+    our_queued(0);
+}
+
+static void feed_nothing(void)
+{
+    static uint8_t replies[REPLIES];
+    sides[OURS].feed(replies, 0, replies);
+}
+
+static const Work works[] = {
+    {"arrive and take, a byte", 1200, nothing, queue_byte, NULL},
+    {"a feed of no bytes, no files", 1500, nothing, feed_nothing, NULL},
+    {"a feed of no bytes, 63 files", 5000, store_files, feed_nothing, NULL},
+    {"text, a byte", 700, nothing, NULL, "text"},
+    {"pixels, a byte", 90, nothing, NULL, "pixels"},
+    {"mixed, a byte", 700, nothing, NULL, "mixed"},
+};
+
+// As many copies as there is room for, so that pieces are full.
+static void repeat(Stream *s)
+{
+    size_t once = s->length;
+    while (s->length + once <= sizeof s->bytes)
+        put(s, s->bytes, once);
+}
+
+static void build(Stream *s, const char *name)
+{
+    size_t i = 0;
+    while (i < family_count && strcmp(families[i].name, name) != 0)
+        i++;
+    if (i < family_count)
+        families[i].timed(s);
+    else
+        mixed(s);
+    repeat(s);
+}
+
+// Prints the work's name, units and goal. There is none of that number: exits with 1.
+int main(int count, char **arguments)
+{
+    static Stream stream;
+    const Work *work;
+    unsigned long number, times, units = DISPLAY_QUEUE_CAPACITY, i;
+    if (count != 3) {
+        fprintf(stderr, "usage: %s WORK TIMES\n", arguments[0]);
+        return 2;
+    }
+    number = strtoul(arguments[1], NULL, 10);
+    times = strtoul(arguments[2], NULL, 10);
+    if (number >= sizeof works / sizeof *works)
+        return 1;
+    work = &works[number];
+    sides[OURS].start();
+    work->start();
+    if (work->stream) {
+        build(&stream, work->stream);
+        units = (unsigned long)stream.length;
+    }
+    printf("%s|%lu|%u\n", work->name, units, work->goal);
+    while (times-- > 0) {
+        if (work->stream)
+            feed_stream(&sides[OURS], &stream, PIECE);
+        else
+            for (i = 0; i < units; i++)
+                work->call();
+    }
+    return 0;
+}
