@@ -9,17 +9,23 @@ use lib.ListN.{length, getD, take, drop, set, length-append, drop-of-length-le}
 use lib.Seq.{sets, length-sets, take-suc, drop-cons}
 use borrow.Author.Tests.{eq-eqb, ne-eqb, lt-ltb, le-ltb}
 use Rattle.pixels.specs.Framebuffer.{height}
-use Rattle.rules.specs.World.{World}
+use Rattle.state.specs.declared.Panel.{Panel}
+use Rattle.state.specs.State.{state}
+use Rattle.record.specs.Reading.{panelOf}
+use Rattle.record.specs.Writing.{panelBytes}
+use Rattle.record.proofs.Back.{panel-back}
+use Rattle.panel.proofs.Laws.{revised-whole}
+use Rattle.rules.specs.World.{World, world}
 use Rattle.rules.specs.Step.{step, replies, outcome}
 use Rattle.rules.specs.Calls.{run, said, taken}
 use Rattle.rules.proofs.Streams.{run-append, said-append}
 use Rattle.rules.proofs.Replies.{replies-most}
 use Rattle.outcome.specs.declared.Reply.{Reply}
 use Rattle.outcome.specs.Outcome.{sentBy}
-use Rattle.outcome.specs.Contract.{Came}
+use Rattle.outcome.specs.Contract.{Held, worldOf, Came}
 use Rattle.calls.specs.Memory.{framebufferRows, Kept}
-use Rattle.calls.proofs.Demands.{kept-step}
-use Rattle.display.specs.Running.{Ran}
+use Rattle.calls.proofs.Demands.{kept-step, state-fits}
+use Rattle.display.specs.Running.{Written, Ran}
 
 -- ---- a reply written
 
@@ -106,11 +112,8 @@ plus-one : (a k : ℕ) → a + (1 + k) ≡ a + 1 + k
 plus-one a k = omega arith
 
 pub feeding-step : {w₀ w : World} {p r₀ r : List ℕ} {at i : ℕ} (b : ℕ) (v : World) (l q : List ℕ) (at' : ℕ) → Feeding w₀ p r₀ w r at i → i < length p → b ≡ getD p i 0 → b < 256
-    → 2 ≤ length r - at → Came w (outcome w b) v l → at' ≡ at + length l → q ≡ sets r at l → Feeding w₀ p r₀ v q at' (i + 1)
-unfolding step replies
-feeding-step {w₀} {w} {p} {r₀} {r} {at} {i} b v l q at' f h eb small free came ea eq =
-    let ev : v ≡ step w b = came .next in
-    let el : l ≡ replies w b = came .sends in
+    → 2 ≤ length r - at → v ≡ step w b → l ≡ replies w b → at' ≡ at + length l → q ≡ sets r at l → Feeding w₀ p r₀ v q at' (i + 1)
+feeding-step {w₀} {w} {p} {r₀} {r} {at} {i} b v l q at' f h eb small free ev el ea eq =
     let s1 : i + 1 ≡ suc i = omega arith in
     let t : take (i + 1) p ≡ take i p ++ (b ∷ []) = ap (λ (n : ℕ). take n p) s1 ∙ take-suc p i 0 h ∙ ap (λ (x : ℕ). take i p ++ (x ∷ [])) (sym eb) in
     let d : drop i p ≡ b ∷ drop (i + 1) p = drop-cons p i 0 h ∙ ap (λ (x : ℕ). x ∷ drop (suc i) p) (sym eb) ∙ ap (λ (n : ℕ). b ∷ drop n p) (sym s1) in
@@ -138,6 +141,27 @@ feeding-step {w₀} {w} {p} {r₀} {r} {at} {i} b v l q at' f h eb small free ca
       long = lg;
       room = omega (arith, few, n .0, f .room);
       left = lf;
+    }
+
+-- ---- a byte obeyed: the panel's bytes are written as the layout has it, before and after it
+
+pub record Stepped (m n : Held) (b : ℕ) (l : List ℕ) : Type 0 where
+  pub next : worldOf n ≡ step (worldOf m) b
+  pub sends : l ≡ replies (worldOf m) b
+  pub written : Written (n .panel-bytes)
+
+pub stepped : (m n : Held) (b : ℕ) (l : List ℕ) → Kept (worldOf m) → b < 256 → Written (m .panel-bytes) → Came m (outcome (worldOf m) b) n l → Stepped m n b l
+unfolding step replies
+stepped m n b l k small written came =
+    let v : World = step (worldOf m) b in
+    let f = state-fits v (kept-step (worldOf m) b k small .good) .panel-fits in
+    let e : n .panel-bytes ≡ panelBytes (v .state .panel) =
+    ap (λ (x : Held). x .panel-bytes) (came .next) ∙ revised-whole (m .panel-bytes) (v .state .panel) (written .again) (f .bars-size) (f .strips-size) in
+    let q : panelOf (n .panel-bytes) ≡ v .state .panel = ap panelOf e ∙ panel-back (v .state .panel) (f .bars-size) (f .strips-size) in
+    record {
+      next = ap (λ (x : Held). world (x .framebuffer) (x .store) (state (x .port) (panelOf (n .panel-bytes)))) (came .next) ∙ ap (λ (y : Panel). world (v .framebuffer) (v .store) (state (v .state .port) y)) q;
+      sends = came .sends;
+      written = record { again = e ∙ ap panelBytes (sym q) };
     }
 
 -- ---- the ends

@@ -3,12 +3,13 @@
 use mathlib.Core.Path.{_≡_, _∙_, refl, sym, ap, subst}
 use mathlib.Core.List.{List, [], _∷_, _++_, append-nil}
 use mathlib.Core.Bool.{Bool, true, false, cond, not, _||_}
-use Prim.Native.Nat.{ℕ, _<_, _≤_}
+use Prim.Native.Nat.{ℕ, _+_, _-_, _<_, _≤_}
 use native.Mathlib.Omega.{arith}
 use native.Mathlib.Nat.{zero-add}
 use lib.Dec.{eqb, leb}
-use lib.ListN.{length, getD, take, drop, set, drop-of-length-le}
-use lib.Seq.{sets-eq}
+use lib.ListN.{length, getD, take, drop, set, length-drop, length-append, drop-of-length-le}
+use lib.Seq.{sets-eq, take-all, drop-at, length-take-le}
+use borrow.Rule.Slice.PartMut.{putMid, midOf}
 use borrow.Author.Tests.{eq-eqb, ne-eqb, le-leb, lt-leb, not-true, not-false}
 use Rattle.pixels.specs.Framebuffer.{fill}
 use Rattle.pixels.specs.Regions.{everywhere}
@@ -19,13 +20,18 @@ use Rattle.queue.specs.Record.{Served, served, arriveIn, takeIn}
 use Rattle.queue.proofs.Answers.{arrival-byte}
 use Rattle.state.specs.declared.Phase.{Phase}
 use Rattle.state.specs.declared.Phase.the-variants.{Upload}
+use Rattle.state.specs.declared.Port.{Port}
 use Rattle.state.specs.declared.State.{State}
-use Rattle.state.specs.State.{startState}
-use Rattle.record.specs.Reading.{decodeOf}
-use Rattle.record.specs.Writing.{encodeOf}
+use Rattle.state.specs.State.{state, startState}
+use Rattle.record.specs.Layout.{phaseAt, panelAt, recordSize}
+use Rattle.record.specs.Reading.{portOf, panelOf, decodeOf}
+use Rattle.record.specs.Writing.{portBytes, panelBytes, encodeOf, over}
 use Rattle.record.specs.Record.{encodedIn, soundRecord}
-use Rattle.record.proofs.Round.{encoded-whole, passed}
-use Rattle.record.proofs.Whole.{written-whole}
+use Rattle.record.specs.Fits.{Fits}
+use Rattle.record.proofs.Bytes.{decoded-fits}
+use Rattle.record.proofs.Overwriting.{over-front}
+use Rattle.record.proofs.Round.{passed}
+use Rattle.record.proofs.Whole.{length-port, written-whole}
 use Rattle.rules.specs.World.{World, world}
 use Rattle.rules.specs.Files.{inUse, lacksSpace}
 use Rattle.rules.specs.Calls.{said, taken}
@@ -34,9 +40,9 @@ use Rattle.calls.specs.Memory.{framebufferRows, framebufferBytes, Memory, memor
 use Rattle.calls.specs.Feed.{fedBytes, feedOf}
 use Rattle.calls.specs.Start.{started, startChecked, startOf, emptied}
 use Rattle.calls.specs.Line.{arriveCall, takeCall}
-use Rattle.calls.proofs.Demands.{checked-kept, state-fits}
+use Rattle.calls.proofs.Demands.{checked-kept}
 use Rattle.display.specs.Exports.{called, calledBy, feedCall}
-use Rattle.display.specs.Running.{Ran}
+use Rattle.display.specs.Running.{Written, Ran, RanOn}
 
 -- ---- the checks
 
@@ -121,9 +127,10 @@ module _ (g s st p r : List ℕ) where
         unfolding feedCall feedOf checked
         feed-4 h = rw (eq-eqb (length g) framebufferBytes size, ← fits, fine, ← sound, true-record, ← valid, h)
 
-        module _ (orderly : not v ≡ false) (z : State) (b : Bool) (read : z ≡ decodeOf st) (blocked : b ≡ uploadRefused s (z .port .phase)) where
+        module _ (orderly : not v ≡ false) (t' : Port) (b : Bool) (read : t' ≡ portOf st) (blocked : b ≡ uploadRefused s (t' .phase)) where
           in-record : b ≡ uploadRefused s (decodeOf st .port .phase)
-          in-record = blocked ∙ ap (λ (x : State). uploadRefused s (x .port .phase)) read
+          unfolding decodeOf
+          in-record = blocked ∙ ap (λ (x : Port). uploadRefused s (x .phase)) read
 
           pub feed-4-upload : b ≡ true → called 4 (memory g s st) r 0 0 ≡ feedCall (memory g s st) p r
           unfolding feedCall feedOf checked
@@ -145,23 +152,69 @@ ran-0 w p r v st q a n k ran e =
     let wrote : q ≡ l ++ drop (length l) r = ran .sent ∙ sets-eq l r 0 (omega (arith, room)) ∙ ap (λ (i : ℕ). l ++ drop i r) (zero-add (length l)) in
     rw (← ran .count, wrote, ran .long, ran .says, e) (ap (λ (x : World). called (cond (eqb n (length p)) 0 5) (saved x) (l ++ drop (length l) r) n (length l)) (ran .next))
 
-feed-0 : (m : Memory) (p r : List ℕ) (v : World) (st q : List ℕ) (a n k : ℕ) → checked m ≡ 0 → length (m .state) ≡ 201 → Ran (loaded m) p r v q a n k
-    → st ≡ encodedIn (v .state) (m .state) → called a (memory (v .framebuffer) (v .store) st) q n k ≡ feedCall m p r
-feed-0 m p r v st q a n k c long ran e =
-    ran-0 (loaded m) p r v st q a n k ran (e ∙ encoded-whole (v .state) (m .state) (state-fits v (ran .kept .good)) long) ∙ sym (fed-0 m p r c)
+feed-0 : (m : Memory) (p r : List ℕ) (v : World) (st q : List ℕ) (a n k : ℕ) → checked m ≡ 0 → Ran (loaded m) p r v q a n k → st ≡ encodeOf (v .state)
+    → called a (memory (v .framebuffer) (v .store) st) q n k ≡ feedCall m p r
+feed-0 m p r v st q a n k c ran e = ran-0 (loaded m) p r v st q a n k ran e ∙ sym (fed-0 m p r c)
 
--- memory that passes the checks holds a kept world
-pub kept-there : (g s st : List ℕ) (z : State) → ((i : ℕ) → getD g i 0 < 256) → ((i : ℕ) → getD s i 0 < 256) → ((i : ℕ) → getD st i 0 < 256)
-    → checked (memory g s st) ≡ 0 → z ≡ decodeOf st → Kept (world g s z)
-kept-there g s st z bg bs bt c e =
-    subst (λ (x : State). Kept (world g s x)) (sym e) (checked-kept (memory g s st) (record { framebuffer = bg; store = bs; state = bt }) c)
+-- ---- the record's port by value, its panel where it stands
 
-pub feed-end : (g s st p r : List ℕ) (u : Bool) (z : State) (g' s' : List ℕ) (z' : State) (st' q : List ℕ) (a n k : ℕ) → checked (memory g s st) ≡ 0
-    → u ≡ soundRecord framebufferRows st → not u ≡ false → z ≡ decodeOf st → Ran (world g s z) p r (world g' s' z') q a n k → st' ≡ encodedIn z' st
-    → called a (memory g' s' st') q n k ≡ feedCall (memory g s st) p r
-feed-end g s st p r u z g' s' z' st' q a n k c sound fine read ran wrote =
-    feed-0 (memory g s st) p r (world g' s' z') st' q a n k c (passed framebufferRows st (sym sound ∙ not-false u fine) .long)
-    (subst (λ (x : State). Ran (world g s x) p r (world g' s' z') q a n k) read ran) wrote
+decoded : (st : List ℕ) (t : Port) → t ≡ portOf st → state t (panelOf (drop panelAt st)) ≡ decodeOf st
+unfolding decodeOf
+decoded st t e = rw e
+
+encoded-panel : (z : State) → Fits z → drop panelAt (encodeOf z) ≡ panelBytes (z .panel)
+unfolding encodeOf
+encoded-panel z f = drop-at (portBytes (z .port)) (panelBytes (z .panel)) 43 (length-port (z .port) (f .port-fits .args-size))
+
+-- what memory that passes the checks holds
+pub ready : (g s st : List ℕ) (t : Port) (u : Bool) → ((i : ℕ) → getD g i 0 < 256) → ((i : ℕ) → getD s i 0 < 256) → ((i : ℕ) → getD st i 0 < 256)
+    → checked (memory g s st) ≡ 0 → u ≡ soundRecord framebufferRows st → not u ≡ false → t ≡ portOf st
+    → Kept (world g s (state t (panelOf (drop panelAt st)))) × Written (drop panelAt st) × (length st ≡ recordSize)
+unfolding decodeOf
+ready g s st t u bg bs bt c sound fine read =
+    let k : Kept (world g s (decodeOf st)) = checked-kept (memory g s st) (record { framebuffer = bg; store = bs; state = bt }) c in
+    let p = passed framebufferRows st (sym sound ∙ not-false u fine) in (
+      subst (λ (x : State). Kept (world g s x)) (sym (decoded st t read)) k,
+      record { again = ap (drop panelAt) (sym (p .again)) ∙ encoded-panel (decodeOf st) (decoded-fits st bt) },
+      p .long,
+    )
+
+pub feed-end : (g s st p r : List ℕ) (t : Port) (g' s' st' : List ℕ) (t' : Port) (q : List ℕ) (a n k : ℕ) → checked (memory g s st) ≡ 0 → t ≡ portOf st
+    → RanOn g s st t p r g' s' st' t' q a n k → called a (memory g' s' st') q n k ≡ feedCall (memory g s st) p r
+feed-end g s st p r t g' s' st' t' q a n k c read ran =
+    feed-0 (memory g s st) p r (world g' s' (state t' (panelOf (drop panelAt st')))) st' q a n k c
+    (subst (λ (x : State). Ran (world g s x) p r (world g' s' (state t' (panelOf (drop panelAt st')))) q a n k) (decoded st t read) (ran .ran)) (ran .record-is)
+
+-- ---- the panel lent on
+
+lent-panel : (m : List ℕ) → length m ≡ recordSize → midOf panelAt (recordSize - panelAt) m ≡ drop panelAt m
+lent-panel m e = take-all 158 (drop 43 m) (omega (arith, e, length-drop 43 m))
+
+pub lent-ready : (g s m : List ℕ) (t : Port)
+    → Kept (world g s (state t (panelOf (drop panelAt m)))) × Written (drop panelAt m) × (length m ≡ recordSize)
+    → Kept (world g s (state t (panelOf (midOf panelAt (recordSize - panelAt) m)))) × Written (midOf panelAt (recordSize - panelAt) m)
+lent-ready g s m t k =
+    (subst (λ (x : List ℕ). Kept (world g s (state t (panelOf x)))) (sym (lent-panel m (k .2))) (k .0), subst Written (sym (lent-panel m (k .2))) (k .1))
+
+pub ran-on : (g s m : List ℕ) (t : Port) (p r g' s' h m' : List ℕ) (t' : Port) (q : List ℕ) (a n k : ℕ) → length m ≡ recordSize
+    → Ran (world g s (state t (panelOf (midOf panelAt (recordSize - panelAt) m)))) p r (world g' s' (state t' (panelOf h))) q a n k → Written h → length (t' .args) ≡ 6
+    → m' ≡ over (portBytes t') phaseAt (putMid panelAt (recordSize - panelAt) m h) → RanOn g s m t p r g' s' m' t' q a n k
+unfolding encodeOf
+ran-on g s m t p r g' s' h m' t' q a n k e ran written six wrote =
+    let l = length-port t' six in
+    let lt : length (take 43 m) ≡ 43 = length-take-le 43 m (omega (arith, e)) in
+    let post : drop 158 (drop 43 m) ≡ [] = drop-of-length-le (drop 43 m) {i = 158} (omega (arith, e, length-drop 43 m)) in
+    let x : take 43 m ++ (h ++ drop 158 (drop 43 m)) ≡ take 43 m ++ h = ap (λ (z : List ℕ). take 43 m ++ (h ++ z)) post ∙ ap (λ (z : List ℕ). take 43 m ++ z) (append-nil h) in
+    let d : m' ≡ portBytes t' ++ h =
+    wrote ∙ ap (over (portBytes t') 0) x ∙ over-front (portBytes t') (take 43 m ++ h)
+    ∙ rw (take-all (length (take 43 m ++ h)) (portBytes t') (omega (arith, length-append (take 43 m) h, lt, l)), l, drop-at (take 43 m) h 43 lt) in
+    let f : drop panelAt m' ≡ h = ap (drop 43) d ∙ drop-at (portBytes t') h 43 l in
+    record {
+      ran =
+          subst (λ (y : List ℕ). Ran (world g s (state t (panelOf (drop panelAt m)))) p r (world g' s' (state t' (panelOf y))) q a n k) (sym f)
+          (subst (λ (y : List ℕ). Ran (world g s (state t (panelOf y))) p r (world g' s' (state t' (panelOf h))) q a n k) (lent-panel m e) ran);
+      record-is = d ∙ ap (λ (y : List ℕ). portBytes t' ++ y) (written .again ∙ ap (λ (y : List ℕ). panelBytes (panelOf y)) (sym f));
+    }
 
 -- ---- arrive and take
 

@@ -6,11 +6,20 @@ use mathlib.Core.List.{List}
 use mathlib.Core.Bool.{cond}
 use Prim.Native.Nat.{ℕ}
 use lib.Dec.{eqb}
-use lib.ListN.{length, take}
+use lib.ListN.{length, take, drop}
 use lib.Seq.{sets}
-use Rattle.rules.specs.World.{World}
+use Rattle.state.specs.declared.Port.{Port}
+use Rattle.state.specs.State.{state}
+use Rattle.record.specs.Layout.{panelAt}
+use Rattle.record.specs.Reading.{panelOf}
+use Rattle.record.specs.Writing.{panelBytes, encodeOf}
+use Rattle.rules.specs.World.{World, world}
 use Rattle.rules.specs.Calls.{run, said, taken}
 use Rattle.calls.specs.Memory.{Kept}
+
+-- the panel's bytes, written as the layout has it
+pub record Written (l : List ℕ) : Type 0 where
+  pub again : l ≡ panelBytes (panelOf l)
 
 -- from world w by piece p into replies r: world v, replies q, so many consumed and replied
 pub record Ran (w : World) (p r : List ℕ) (v : World) (q : List ℕ) (answer consumed replied : ℕ) : Type 0 where
@@ -20,3 +29,8 @@ pub record Ran (w : World) (p r : List ℕ) (v : World) (q : List ℕ) (answer c
   pub sent : q ≡ sets r 0 (said w (take consumed p))
   pub long : replied ≡ length (said w (take consumed p))
   pub says : answer ≡ cond (eqb consumed (length p)) 0 5
+
+-- the same from framebuffer g, store s, port t and the panel in the record m to g', s', t' and the record m', which has both
+pub record RanOn (g s m : List ℕ) (t : Port) (p r g' s' m' : List ℕ) (t' : Port) (q : List ℕ) (answer consumed replied : ℕ) : Type 0 where
+  pub ran : Ran (world g s (state t (panelOf (drop panelAt m)))) p r (world g' s' (state t' (panelOf (drop panelAt m')))) q answer consumed replied
+  pub record-is : m' ≡ encodeOf (state t' (panelOf (drop panelAt m')))

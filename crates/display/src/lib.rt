@@ -9,21 +9,28 @@ use queue::LOST;
 use queue::LOST_HIGH;
 use queue::MARK;
 use queue::PLACE;
+use record::PANEL;
+use record::RECORD;
+use record::decode_port;
+use record::encode_port;
 use state::Phase;
-use state::State;
+use state::Port;
 use state::start_state;
 use storage::is_turned_away;
 ghost use mathlib.Core.Path.{_≡_};
 ghost use Prim.Native.Nat.{_+_, _≤_};
-ghost use lib.ListN.{length};
+ghost use lib.ListN.{length, drop};
 ghost use lib.Seq.{sets};
+ghost use Rattle.state.specs.State.{state};
+ghost use Rattle.record.specs.Layout.{panelAt, recordSize};
+ghost use Rattle.record.specs.Reading.{panelOf};
 ghost use Rattle.rules.specs.World.{world};
 ghost use Rattle.outcome.specs.Outcome.{sentBy};
 ghost use Rattle.calls.specs.Memory.{memory, storeFits, uploadRefused, Kept};
 ghost use Rattle.calls.specs.Start.{started, startOf, emptied};
 ghost use Rattle.calls.specs.Line.{served, arriveCall, takeCall};
 ghost use Rattle.display.specs.Exports.{called, feedCall};
-ghost use Rattle.display.specs.Running.{Ran};
+ghost use Rattle.display.specs.Running.{Written, Ran, RanOn};
 
 // Answers; those of the queue are its own.
 pub const DONE: u32 = 0;
@@ -50,7 +57,7 @@ pub const STORE_MOST: usize = 32768;
 pub const REPLY_ROOM: usize = 2;
 
 struct Progress {
-    state: State,
+    port: Port,
     answer: u32,
     consumed: usize,
     replied: usize,
@@ -76,37 +83,63 @@ fn send(replies: &mut [u8], at: usize, reply: Reply) -> usize
 fn run(
     framebuffer: &mut [u8],
     store: &mut [u8],
-    state: State,
+    panel: &mut [u8],
+    port: Port,
     piece: &[u8],
     replies: &mut [u8],
 ) -> Progress
-    requires { ⌜ Kept (world (now framebuffer) (now store) state) ⌝ }
-    ensures { λ r. ⌜ Ran (world (now (framebuffer .entry)) (now (store .entry)) state) (now (piece .entry)) (now (replies .entry)) (world (now (framebuffer .exit)) (now (store .exit)) (r .state)) (now (replies .exit)) (r .answer) (r .consumed) (r .replied) ⌝ }
+    requires { ⌜ Kept (world (now framebuffer) (now store) (state port (panelOf (now panel)))) × Written (now panel) ⌝ }
+    ensures { λ r. ⌜ Ran (world (now (framebuffer .entry)) (now (store .entry)) (state port (panelOf (now (panel .entry))))) (now (piece .entry)) (now (replies .entry)) (world (now (framebuffer .exit)) (now (store .exit)) (state (r .port) (panelOf (now (panel .exit))))) (now (replies .exit)) (r .answer) (r .consumed) (r .replied) × Written (now (panel .exit)) ⌝ }
 {
-    let mut s = state;
+    let mut p = port;
     let mut i = 0;
     let mut at = 0;
     while i < piece.len() {
         if replies.len() - at < REPLY_ROOM {
             return Progress {
-                state: s,
+                port: p,
                 answer: NO_REPLY_ROOM,
                 consumed: i,
                 replied: at,
             };
         }
-        let o = step(framebuffer, store, s, ROWS, piece[i]);
+        let o = step(framebuffer, store, panel, p, ROWS, piece[i]);
         at = send(replies, at, o.reply);
-        let next = o.state;
-        s = next;
+        let next = o.port;
+        p = next;
         i += 1;
     }
     Progress {
-        state: s,
+        port: p,
         answer: DONE,
         consumed: i,
         replied: at,
     }
+}
+
+// The same on a state record, whose port is written back when all is done.
+fn run_on(
+    framebuffer: &mut [u8],
+    store: &mut [u8],
+    record: &mut [u8],
+    port: Port,
+    piece: &[u8],
+    replies: &mut [u8],
+) -> Progress
+    requires { ⌜ Kept (world (now framebuffer) (now store) (state port (panelOf (drop panelAt (now «record»))))) × Written (drop panelAt (now «record»)) × (length (now «record») ≡ recordSize) ⌝ }
+    ensures { λ r. ⌜ RanOn (now (framebuffer .entry)) (now (store .entry)) (now («record» .entry)) port (now (piece .entry)) (now (replies .entry)) (now (framebuffer .exit)) (now (store .exit)) (now («record» .exit)) (r .port) (now (replies .exit)) (r .answer) (r .consumed) (r .replied) ⌝ }
+{
+    let ran = run(
+        framebuffer,
+        store,
+        &mut record[PANEL..RECORD],
+        port,
+        piece,
+        replies,
+    );
+    let next = ran.port;
+    encode_port(next, record);
+    ran
 }
 
 fn store_fits(store: &[u8]) -> bool
@@ -172,7 +205,7 @@ pub extern "C" fn display_start(
     if !store_fits(store) {
         return BAD_STORE;
     }
-    if state.len() != record::RECORD {
+    if state.len() != RECORD {
         return BAD_RECORD;
     }
     if queue.len() != queue::RECORD {
@@ -215,15 +248,12 @@ pub extern "C" fn display_feed(
     if !is_valid(store) {
         return BAD_DIRECTORY;
     }
-    let s = record::decode(state);
-    let port = s.port;
+    let port = decode_port(state);
     let phase = port.phase;
     if is_blocked(store, phase) {
         return BAD_DIRECTORY;
     }
-    let ran = run(framebuffer, store, s, piece, replies);
-    let next = ran.state;
-    record::encode(next, state);
+    let ran = run_on(framebuffer, store, state, port, piece, replies);
     *consumed = ran.consumed;
     *replied = ran.replied;
     ran.answer

@@ -13,11 +13,13 @@ use Rattle.bar_graph.specs.declared.Bar.{Bar}
 use Rattle.queue.specs.Record.{at}
 use Rattle.state.specs.declared.BarSlot.{BarSlot}
 use Rattle.state.specs.declared.Strip.{Strip}
+use Rattle.state.specs.declared.Panel.{Panel}
 use Rattle.state.specs.State.{barOf, barSlot, strip, barAt, stripAt, noBar, noStrip, withBars, withStrips, withSerial, withContrast, withBacklight}
 use Rattle.record.specs.Reading.{panelOf}
-use Rattle.record.specs.Writing.{slotBytes, stripBytes, over}
-use Rattle.panel.specs.Revised.{revised, serial, backlight}
-use Rattle.panel.proofs.Merging.{merged-same}
+use Rattle.record.specs.Writing.{slotBytes, stripBytes, panelBytes, over}
+use Rattle.record.proofs.Whole.{length-panel}
+use Rattle.panel.specs.Revised.{merged, revised, serial, backlight}
+use Rattle.panel.proofs.Merging.{merged-same, merged-all}
 use Rattle.panel.proofs.Parts.{bars-count, strips-count, bar-in, strip-in, bar-written, strip-written, serial-written, contrast-written, lit-written, dark-written}
 
 pub revised-same : (l : List ℕ) → revised l (panelOf l) ≡ l
@@ -142,3 +144,11 @@ unfolding panelOf
 dark-kept p f d h =
     let e : eqb (at (drop 156 p) 0) 1 ≡ false = ap (λ (x : ℕ). eqb x 1) (getD-drop 156 p 0 0 ∙ sym d) ∙ ne-eqb f 1 h in
     sym (ap (λ (t : Bool). revised p (withBacklight (panelOf p) (backlight t (panelOf p .backlight .minutes)))) (sym e) ∙ revised-same p)
+
+-- ---- bytes that are written as the layout has it become those of the other panel
+
+pub revised-whole : (l : List ℕ) (q : Panel) → l ≡ panelBytes (panelOf l) → length (q .bars) ≡ 16 → length (q .strips) ≡ 8 → revised l q ≡ panelBytes q
+unfolding revised
+revised-whole l q e b s =
+    ap (λ (m : List ℕ). merged l m (panelBytes q)) (sym e)
+    ∙ merged-all l (panelBytes q) (ap length e ∙ length-panel (panelOf l) (bars-count l) (strips-count l) ∙ sym (length-panel q b s))

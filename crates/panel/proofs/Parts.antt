@@ -19,6 +19,7 @@ use Rattle.state.specs.State.{barSlot, strip, barAt, stripAt, noBar, noStrip, w
 use Rattle.record.specs.Reading.{slotOf, stripOf, panelOf}
 use Rattle.record.specs.Writing.{manyBytes, slotBytes, stripBytes, lastBytes, panelBytes, over}
 use Rattle.record.proofs.Overwriting.{over-front, length-manyBytes}
+use Rattle.record.proofs.Whole.{length-panel}
 use Rattle.record.proofs.Filling.{length-many, many-at}
 use Rattle.panel.specs.Revised.{merged, revised, serial, backlight}
 use Rattle.panel.proofs.Merging.{Writable, merged-over, merged-same}
@@ -77,12 +78,6 @@ module _ (p : List ℕ) where
   length-strips : length (manyBytes stripBytes (panelOf p .strips)) ≡ 40
   unfolding panelOf
   length-strips = length-manyBytes stripBytes 5 (λ a. refl) (panelOf p .strips) ∙ ap (λ (n : ℕ). 5 * n) (length-many stripOf 5 (drop 112 p) 8)
-
-  pub length-panel : length (panelBytes (panelOf p)) ≡ 158
-  unfolding panelBytes
-  length-panel =
-      length-append (manyBytes slotBytes (panelOf p .bars)) _
-      ∙ rw (length-bars, length-append (manyBytes stripBytes (panelOf p .strips)) (lastBytes (panelOf p)), length-strips)
 
   pub bars-count : length (panelOf p .bars) ≡ 16
   unfolding panelOf
@@ -172,7 +167,7 @@ module _ (p : List ℕ) where
       → over (slotBytes (barSlot true b)) (7 * n) p ≡ revised p (withBars (panelOf p) (set (panelOf p .bars) n (barSlot true b)))
   unfolding revised
   bar-written n b h =
-      merged-over (slotBytes (barSlot true b)) p (panelBytes (panelOf p)) (7 * n) (omega (arith, length-panel p)) (
+      merged-over (slotBytes (barSlot true b)) p (panelBytes (panelOf p)) (7 * n) (omega (arith, length-panel (panelOf p) (bars-count p) (strips-count p))) (
         bar-flag n h,
         (
           bar-raw n _ 0 _ h (omega arith) (omega arith),
@@ -214,7 +209,7 @@ module _ (p : List ℕ) where
       → over (stripBytes (strip true x1 y1 x2 y2)) (112 + 5 * n) p ≡ revised p (withStrips (panelOf p) (set (panelOf p .strips) n (strip true x1 y1 x2 y2)))
   unfolding revised
   strip-written n x1 y1 x2 y2 h =
-      merged-over (stripBytes (strip true x1 y1 x2 y2)) p (panelBytes (panelOf p)) (112 + 5 * n) (omega (arith, length-panel p)) (
+      merged-over (stripBytes (strip true x1 y1 x2 y2)) p (panelBytes (panelOf p)) (112 + 5 * n) (omega (arith, length-panel (panelOf p) (bars-count p) (strips-count p))) (
         strip-flag n _ h refl,
         (
           strip-raw n _ 0 _ h (omega arith) (omega arith),
@@ -243,7 +238,7 @@ module _ (p : List ℕ) where
       → j + length l ≤ 6 → Writable p (panelBytes (panelOf p)) (152 + j) l → over l (152 + j) p ≡ revised p q
   unfolding revised
   last-written q l j e f d h w =
-      merged-over l p (panelBytes (panelOf p)) (152 + j) (omega (arith, length-panel p)) w ∙ ap (merged p (panelBytes (panelOf p))) (sym (last-bytes q l j e f d))
+      merged-over l p (panelBytes (panelOf p)) (152 + j) (omega (arith, length-panel (panelOf p) (bars-count p) (strips-count p))) w ∙ ap (merged p (panelBytes (panelOf p))) (sym (last-bytes q l j e f d))
 
   last-raw : (k j b x : ℕ) → k ≡ 152 + j → at (lastBytes (panelOf p)) j ≡ x → x ≡ at p k → at (panelBytes (panelOf p)) k ≡ b → at p k ≡ b
   last-raw k j b x z f g e = sym g ∙ sym f ∙ sym (last-byte p j) ∙ ap (at (panelBytes (panelOf p))) (sym z) ∙ e
