@@ -108,7 +108,7 @@ module _ (s : List ℕ) (b : (i : ℕ) → getD s i 0 < 256) where
   numbered p h =
       let w = whole s p h in
       let k = kinds (getD s p 0) (λ z. h (w .same ∙ z)) in
-      record { least = k .0; most = k .1; below = b (p + 1) }
+      record { least = k .0; most = k .1; below = omega (arith, b (p + 1)) }
 
   -- where a record stands
   pub file-numbered : (p n : ℕ) (d : Entry) → n ≡ stepAt s p → (n ≡ 0 → ⊥) → d ≡ entryAt s p → Numbered (d .kind) (d .number)
