@@ -1,15 +1,15 @@
 -- The records one after the other: where one stands, the two ways of a walk over them, and induction along them.
 -- Assumes nothing.
 use mathlib.Core.Path.{_≡_, refl, sym, ap, _∙_}
-use mathlib.Core.List.{List, [], _∷_, _++_}
-use mathlib.Core.Bool.{Bool, true, false, cond, _&&_, _||_, not}
-use Prim.Native.Nat.{ℕ, zero, suc, _+_, _-_, _*_, _≤_, _<_}
+use mathlib.Core.List.{List, [], _∷_}
+use mathlib.Core.Bool.{Bool, true, false, cond}
+use Prim.Native.Nat.{ℕ, zero, suc, _+_, _-_, _≤_, _<_}
 use native.Mathlib.Omega.{arith}
 use lib.ListN.{length, getD, List·getD-eq-default}
-use lib.Dec.{ltb, leb, eqb, lit≤}
+use lib.Dec.{leb, eqb, lit≤}
 use borrow.Author.Tests.{eq-eqb, ne-eqb, le-leb, lt-leb, leb-true, eqb-true, eqb-false}
 use Rattle.directory.specs.declared.Entry.{Entry}
-use Rattle.directory.specs.Directory.{lengthOf, stepAt, entryAt, readFrom, entriesFrom, entries}
+use Rattle.directory.specs.Directory.{lengthOf, stepAt, entryAt, readFrom, entriesFrom}
 
 pub length-font : (k : ℕ) → k ≡ 1 → 4 ≡ lengthOf k
 unfolding lengthOf

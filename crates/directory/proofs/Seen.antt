@@ -1,16 +1,16 @@
 -- Numbers seen: a table with a bit for each kind and number, in place of a look at every later record.
 -- Assumes nothing.
-use mathlib.Core.Path.{_≡_, refl, sym, ap, _∙_}
+use mathlib.Core.Path.{_≡_, refl, sym, _∙_}
 use mathlib.Core.List.{List, [], _∷_}
-use mathlib.Core.Bool.{Bool, true, false, cond, _&&_, _||_, not, or-false, and-false}
+use mathlib.Core.Bool.{Bool, true, false, _&&_, _||_, not, or-false, and-false}
 use Prim.Native.Nat.{ℕ, zero, suc, _+_, _-_, _*_, _/_, _%_, _^_, _≤_, _<_}
 use native.Mathlib.Omega.{arith}
 use native.Mathlib.Decide.{ℕ-discrete}
 use lib.Bits.{bitOr}
-use lib.Dec.{leb, eqb}
-use lib.ListN.{length, getD, set, replicate, length-set}
+use lib.Dec.{eqb}
+use lib.ListN.{length, getD, set, replicate}
 use lib.Seq.{getD-set-same, getD-set-other}
-use borrow.Author.Tests.{eq-eqb, ne-eqb, le-leb, lt-leb}
+use borrow.Author.Tests.{eq-eqb, ne-eqb}
 use Rattle.pixels.specs.Framebuffer.{bitOf}
 use Rattle.pixels.proofs.Bits.{bit-zero, bit-or, bit-one}
 use Rattle.directory.specs.declared.Entry.{Entry}
@@ -42,13 +42,20 @@ marked-mark t i j l =
 
 -- ---- a file's place in it
 
+-- numbers of a kind, and bytes that have a bit for each number of two kinds
+abbrev numbers : ℕ
+numbers = 256
+
+abbrev pub tableSize : ℕ
+tableSize = 64
+
 abbrev pub slot : ℕ → ℕ → ℕ
-slot k n = 256 * (k - 1) + n
+slot k n = numbers * (k - 1) + n
 
 pub record Numbered (k n : ℕ) : Type 0 where
   pub least : 1 ≤ k
   pub most : k ≤ 2
-  pub below : n < 256
+  pub below : n < numbers
 
 -- no two files share a bit
 slot-same : (k n j m : ℕ) → Numbered k n → Numbered j m → eqb (slot k n) (slot j m) ≡ (eqb k j && eqb n m)
@@ -101,7 +108,7 @@ module _ (s : List ℕ) (b : (i : ℕ) → getD s i 0 < 256) where
   numbered p h =
       let w = whole s p h in
       let k = kinds (getD s p 0) (λ z. h (w .same ∙ z)) in
-      record { least = k .0; most = k .1; below = b (p + 1) }
+      record { least = k .0; most = k .1; below = omega (arith, b (p + 1)) }
 
   -- where a record stands
   pub file-numbered : (p n : ℕ) (d : Entry) → n ≡ stepAt s p → (n ≡ 0 → ⊥) → d ≡ entryAt s p → Numbered (d .kind) (d .number)

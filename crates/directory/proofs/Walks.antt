@@ -1,22 +1,21 @@
 -- The loops over the directory's records: what is left from here is what was to be done from the start.
 -- Assumes nothing.
 use mathlib.Core.Path.{_≡_, refl, sym, ap, _∙_}
-use mathlib.Core.List.{List, [], _∷_, _++_}
-use mathlib.Core.Bool.{Bool, true, false, cond, _&&_, _||_, not, and-true, and-false, and-assoc}
+use mathlib.Core.List.{List}
+use mathlib.Core.Bool.{Bool, true, false, _&&_, not, and-true, and-false, and-assoc}
 use Prim.Native.Nat.{ℕ, zero, suc, _+_, _-_, _*_, _/_, _%_, _^_, _≤_, _<_}
 use native.Mathlib.Omega.{arith}
 use lib.ListN.{length, getD, replicate, length-set}
-use lib.Dec.{ltb, leb, eqb}
+use lib.Dec.{leb, eqb}
 use lib.Bits.{bitOr, or-zero-l, or-add-and, and-le-r}
-use borrow.Author.Tests.{eq-eqb, ne-eqb, le-leb, lt-leb}
+use borrow.Author.Tests.{eq-eqb, ne-eqb, lt-leb}
 use Rattle.pixels.specs.Framebuffer.{bitOf}
 use Rattle.directory.specs.declared.Entry.{Entry}
 use Rattle.directory.specs.declared.Totals.{Totals}
-use Rattle.directory.specs.declared.Found.{Found}
 use Rattle.directory.specs.declared.Found.the-variants.{At, Nothing}
-use Rattle.directory.specs.Directory.{lengthOf, stepAt, entryAt, entriesFrom, entries, bytesIn, sizesIn, totalsOf, isFile, hasFile, findIn, findOf, isFair, keepRules, zeros, zerosFrom, validOf}
-use Rattle.directory.proofs.Laws.{Stands, stands, none, more, kind-length}
-use Rattle.directory.proofs.Seen.{mark, slot, fresh, fresh-all, fresh-mark, file-numbered}
+use Rattle.directory.specs.Directory.{stepAt, entryAt, entriesFrom, entries, bytesIn, sizesIn, totalsOf, isFile, hasFile, findIn, findOf, isFair, keepRules, zeros, zerosFrom, validOf}
+use Rattle.directory.proofs.Laws.{stands, none, more, kind-length}
+use Rattle.directory.proofs.Seen.{tableSize, mark, slot, fresh, fresh-all, fresh-mark, file-numbered}
 
 -- Sums.
 
@@ -118,15 +117,15 @@ zeroing-more s o p a w h = record { rest = rw (or-none a (getD s p 0), and-assoc
 
 pub record Surveying (s t : List ℕ) (p count used : ℕ) : Type 0 where
   pub counting : Counting s p count used
-  pub long : length t ≡ 64
+  pub long : length t ≡ tableSize
   pub rest : (keepRules (entriesFrom p s) && fresh t (entriesFrom p s)) ≡ keepRules (entries s)
 
-pub survey-start : (s : List ℕ) → Surveying s (replicate 64 0) 0 0 0
+pub survey-start : (s : List ℕ) → Surveying s (replicate tableSize 0) 0 0 0
 survey-start s =
     record {
       counting = counting-start s;
       long = refl;
-      rest = rw (fresh-all 64 (entries s)) (and-true (keepRules (entries s)));
+      rest = rw (fresh-all tableSize (entries s)) (and-true (keepRules (entries s)));
     }
 
 broken : (s : List ℕ) → keepRules (entries s) ≡ false → false ≡ validOf s

@@ -111,10 +111,27 @@ fn step_at(store: &[u8], p: usize) -> usize
     0
 }
 
+// The record at p, all of it in the store.
+fn whole_entry(store: &[u8], p: usize) -> Entry
+    requires { ⌜ p + 4 ≤ length (now store) ⌝ }
+    ensures { λ r. ⌜ (r ≡ entryAt (now (store .entry)) p) × (r .size < 65536) ⌝ }
+{
+    let low = wide(store[p + 2]);
+    let high = wide(store[p + 3]);
+    Entry {
+        kind: store[p],
+        number: store[p + 1],
+        size: low + 256 * high,
+    }
+}
+
 fn entry_at(store: &[u8], p: usize) -> Entry
     requires { ⌜ p ≤ 256 ⌝ }
     ensures { λ r. ⌜ (r ≡ entryAt (now (store .entry)) p) × (r .size < 65536) ⌝ }
 {
+    if p + 4 <= store.len() {
+        return whole_entry(store, p);
+    }
     let low = wide(byte_at(store, p + 2));
     let high = wide(byte_at(store, p + 3));
     Entry {
@@ -248,7 +265,7 @@ pub fn is_valid(store: &[u8]) -> bool
                 },
             );
         }
-        let e = entry_at(store, p);
+        let e = whole_entry(store, p);
         if !is_fair(e) {
             return false;
         }

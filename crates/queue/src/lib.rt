@@ -184,7 +184,7 @@ fn advance(r: &mut [u8], mark: bool) -> u8
     byte
 }
 
-// A byte comes in. A queue with 80 bytes held is full.
+// A byte comes in. A queue with 80 bytes held is full. A record that is not sound stays as it is.
 pub fn arrive(r: &mut [u8], flow: Flow, byte: u8) -> Response
     ensures { λ s. ⌜ served (s .answer) (s .byte) (s .signal) (now (r .exit)) ≡ arriveIn (now (r .entry)) flow byte ⌝ }
 {
@@ -213,7 +213,7 @@ pub fn arrive(r: &mut [u8], flow: Flow, byte: u8) -> Response
     }
 }
 
-// A byte goes out.
+// A byte goes out. A record that is not sound stays as it is.
 pub fn take(r: &mut [u8], flow: Flow) -> Response
     ensures { λ s. ⌜ served (s .answer) (s .byte) (s .signal) (now (r .exit)) ≡ takeIn (now (r .entry)) flow ⌝ }
 {

@@ -29,17 +29,17 @@ closes-requires c κs = (search needs, omega (arith, c .before .before .loop .in
 returns-2 : tie.Need-returns-2 Inv-loop μ-loop
 returns-2 c = survey-end _ _ _ _ _ _ (c .before .before .before .loop .inv) (c .before .before .step-at .ensures) _ (search needs) (c .closes .ensures)
 
-entry-at-requires : tie.Need-entry-at-requires Inv-loop μ-loop
-entry-at-requires c κs = omega (arith, stands _ _ _ (c .before .step-at .ensures) (c .if2 .left))
+whole-entry-requires : tie.Need-whole-entry-requires Inv-loop μ-loop
+whole-entry-requires c κs = omega (arith, stands _ _ _ (c .before .step-at .ensures) (c .if2 .left), c .before .before .before .if1 .left)
 
 is-fair-requires : tie.Need-is-fair-requires Inv-loop μ-loop
 is-fair-requires c κs = search needs
 
 returns-3 : tie.Need-returns-3 Inv-loop μ-loop
-returns-3 c = survey-unfair _ _ _ _ _ _ (c .before .before .before .before .before .loop .inv) (c .before .before .before .before .step-at .ensures) (c .before .before .before .if2 .left) _ (c .before .before .entry-at .ensures .0) _ (c .before .is-fair .ensures) (not-true _ (c .if3 .taken))
+returns-3 c = survey-unfair _ _ _ _ _ _ (c .before .before .before .before .before .loop .inv) (c .before .before .before .before .step-at .ensures) (c .before .before .before .if2 .left) _ (c .before .before .whole-entry .ensures .0) _ (c .before .is-fair .ensures) (not-true _ (c .if3 .taken))
 
 slot-requires : tie.Need-slot-requires Inv-loop μ-loop
-slot-requires c κs = let a = file-numbered _ (λ i. c .before .before .before .before .before .before .before .shared-slice-known .given i .fits) _ _ _ (c .before .before .before .before .step-at .ensures) (c .before .before .before .if2 .left) (c .before .before .entry-at .ensures .0) in (a .least, a .most)
+slot-requires c κs = let a = file-numbered _ (λ i. c .before .before .before .before .before .before .before .shared-slice-known .given i .fits) _ _ _ (c .before .before .before .before .step-at .ensures) (c .before .before .before .if2 .left) (c .before .before .whole-entry .ensures .0) in (a .least, a .most)
 
 array-read-if4 : tie.Need-array-read-if4 Inv-loop μ-loop
 array-read-if4 c = search needs
@@ -54,7 +54,7 @@ shr-if4 : tie.Need-shr-if4 Inv-loop μ-loop
 shr-if4 c = search needs
 
 returns-4 : tie.Need-returns-4 Inv-loop μ-loop
-returns-4 c = survey-twice _ _ _ _ _ _ (c .before .before .before .before .before .before .before .loop .inv) (c .before .before .before .before .before .before .step-at .ensures) (c .before .before .before .before .before .if2 .left) _ (c .before .before .before .before .entry-at .ensures .0) _ (c .before .before .before .is-fair .ensures) (not-false _ (c .before .before .if3 .left)) _ (c .before .slot .ensures .0) (search needs)
+returns-4 c = survey-twice _ _ _ _ _ _ (c .before .before .before .before .before .before .before .loop .inv) (c .before .before .before .before .before .before .step-at .ensures) (c .before .before .before .before .before .if2 .left) _ (c .before .before .before .before .whole-entry .ensures .0) _ (c .before .before .before .is-fair .ensures) (not-false _ (c .before .before .if3 .left)) _ (c .before .slot .ensures .0) (search needs)
 
 array-read-seen : tie.Need-array-read-seen Inv-loop μ-loop
 array-read-seen c = search needs
@@ -69,7 +69,7 @@ array-write-seen : tie.Need-array-write-seen Inv-loop μ-loop
 array-write-seen c = search needs
 
 add-used : tie.Need-add-used Inv-loop μ-loop
-add-used c = omega (arith, c .before .before .before .before .before .before .before .before .loop .inv .counting .small, c .before .before .before .before .before .before .before .before .loop .inv .counting .within, c .before .before .before .before .before .entry-at .ensures .1)
+add-used c = omega (arith, c .before .before .before .before .before .before .before .before .loop .inv .counting .small, c .before .before .before .before .before .before .before .before .loop .inv .counting .within, c .before .before .before .before .before .whole-entry .ensures .1)
 
 add-count : tie.Need-add-count Inv-loop μ-loop
 add-count c = omega (arith, c .before .before .before .before .before .before .before .before .loop .inv .counting .few, c .before .before .before .before .before .before .before .before .loop .inv .counting .within)
@@ -81,7 +81,7 @@ loop-less : tie.Need-loop-less Inv-loop μ-loop
 loop-less c = omega (arith, stands _ _ _ (c .before .before .before .before .before .before .before .step-at .ensures) (c .before .before .before .before .before .before .if2 .left))
 
 loop-again : tie.Need-loop-again Inv-loop μ-loop
-loop-again c = survey-more _ _ _ _ _ _ (c .before .before .before .before .before .before .before .before .loop .inv) (c .before .before .before .before .before .before .before .step-at .ensures) (c .before .before .before .before .before .before .if2 .left) _ (c .before .before .before .before .before .entry-at .ensures .0) _ (c .before .before .before .before .is-fair .ensures) (not-false _ (c .before .before .before .if3 .left)) _ (c .before .before .slot .ensures .0) (search needs) (λ i. c .before .before .before .before .before .before .before .before .before .before .shared-slice-known .given i .fits) (c .before .before .before .before .before .entry-at .ensures .1)
+loop-again c = survey-more _ _ _ _ _ _ (c .before .before .before .before .before .before .before .before .loop .inv) (c .before .before .before .before .before .before .before .step-at .ensures) (c .before .before .before .before .before .before .if2 .left) _ (c .before .before .before .before .before .whole-entry .ensures .0) _ (c .before .before .before .before .is-fair .ensures) (not-false _ (c .before .before .before .if3 .left)) _ (c .before .before .slot .ensures .0) (search needs) (λ i. c .before .before .before .before .before .before .before .before .before .before .shared-slice-known .given i .fits) (c .before .before .before .before .before .whole-entry .ensures .1)
 
 pub is-valid-spec : {M : Type 1} → statement M
 is-valid-spec =
@@ -94,7 +94,7 @@ is-valid-spec =
     step-at-requires
     closes-requires
     returns-2
-    entry-at-requires
+    whole-entry-requires
     is-fair-requires
     returns-3
     slot-requires
