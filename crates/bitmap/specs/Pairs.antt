@@ -31,10 +31,6 @@ pub record BlendedPair (a m b r : ℕ) : Type 0 where
 unfoldable pub putPair : ℕ → ℕ → ℕ → List ℕ → List ℕ
 putPair i m b g = put (masked (i + 1) (m / 256)) (cellBits (b / 256)) (put (masked i (m % 256)) (cellBits (b % 256)) g)
 
--- a row of bits from number k on, its first one in column x
-unfoldable pub rowBits : ℕ → ℕ → List ℕ → Picture
-rowBits k x bits u v = packedBit bits (k + (u - x))
-
 -- rows of w bits from number k on, the first one at (x, y)
 unfoldable pub packedFrom : ℕ → ℕ → ℕ → ℕ → List ℕ → Picture
 packedFrom k x y w bits u v = packedBit bits (k + (v - y) * w + (u - x))

@@ -1,5 +1,5 @@
 use mathlib.Core.Path.{refl}
-use Rattle.bitmap.proofs.Short.{byte-painted, byte-last, byte-none}
+use Rattle.bitmap.proofs.Strips.{byte-painted, byte-last, byte-none}
 use borrow.Author.Needs.{needs}
 use Rattle.bitmap.proofs.paint_byte.Statement.{statement}
 use Rattle.bitmap.proofs.paint_byte.Tie as tie
