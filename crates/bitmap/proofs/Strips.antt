@@ -10,7 +10,7 @@ use native.Mathlib.Decide.{decLt, ℕ-discrete}
 use lib.Dec.{eqb}
 use lib.ListN.{length}
 use borrow.Author.Tests.{ne-eqb, eqb-true}
-use Rattle.pixels.specs.Framebuffer.{cell, put, width, rowStart}
+use Rattle.pixels.specs.Framebuffer.{cell, put, width}
 use Rattle.pixels.specs.Regions.{within, span, box}
 use Rattle.pixels.proofs.Tests.{and-one, and-two}
 use Rattle.pixels.proofs.Bits.{bit-byte}
@@ -20,7 +20,7 @@ use Rattle.pixels.proofs.Intervals.{within-iff, within-true, within-none, withi
 use Rattle.pixels.proofs.Growth.{box-none, box-more}
 use Rattle.spans.specs.Bits.{packedBit, windowOf, bitsFrom, cellEnd}
 use Rattle.bitmap.specs.Bitmaps.{packed, packedBox}
-use Rattle.bitmap.specs.Pairs.{pairOf, swapped, columnMask, putPair, packedFrom}
+use Rattle.bitmap.specs.Pairs.{pairOf, swapped, columnMask, putPair, packedFrom, RowsReached}
 use Rattle.bitmap.proofs.Pairs.{pair-painted, pair-window}
 
 -- ---- the rows of a strip
@@ -94,15 +94,25 @@ module _ {x1 x2 y1 y2 w first : ℕ} {bits g₀ : List ℕ} where
         | no q ↦ rw (within-iff x1 x2 u 0 0 u (omega (arith, s .long, on .1)) (omega arith), within-none 0 u)
       ])
 
--- the rest after the first rows
-pub strip-rest : (x1 x2 y1 y2 w first y : ℕ) (bits g₀ g h : List ℕ) → y1 ≤ y → y ≤ y2 → g ≡ put (box x1 x2 y1 y) (packedFrom first x1 y1 w bits) g₀
-    → h ≡ put (box x1 x2 y y2) (packedFrom (first + (y - y1) * w) x1 y w bits) g → h ≡ put (box x1 x2 y1 y2) (packedFrom first x1 y1 w bits) g₀
-strip-rest x1 x2 y1 y2 w first y bits g₀ g h l m p q =
-    q ∙ put-same (box x1 x2 y y2) (box x1 x2 y y2) (packedFrom (first + (y - y1) * w) x1 y w bits) (packedFrom first x1 y1 w bits) g (λ u v on. refl)
-    (λ u v on t. let b = within-true y y2 v (and-two (within x1 x2 u) (within y y2 v) t) in rest-bit bits first x1 y1 y w u v l (b .0))
-    ∙ ap (put (box x1 x2 y y2) (packedFrom first x1 y1 w bits)) p ∙ put-put (box x1 x2 y1 y) (box x1 x2 y y2) (packedFrom first x1 y1 w bits) g₀
-    ∙ put-region (λ u v. box x1 x2 y1 y u v || box x1 x2 y y2 u v) (box x1 x2 y1 y2) (packedFrom first x1 y1 w bits) g₀
-    (λ u v on. sym (and-or-distrib-left (within x1 x2 u) (within y1 y v) (within y y2 v)) ∙ rw (within-join y1 y y2 v l m))
+-- the rest after the rows that were painted by pairs
+module _ {x1 x2 y1 y2 w first next : ℕ} {bits g₀ g : List ℕ} (s : RowsReached x1 x2 y1 y2 w first next bits g₀ g) (inside : x1 < width) where
+  pub row-reached : (next - 1) / 30 ≡ s .row
+  row-reached = omega (arith, s .at-byte)
+
+  pub row-left : next ≤ 30 * y2 → ((next - 1) / 30 < y2) × (y1 ≤ (next - 1) / 30)
+  row-left l = (omega (arith, s .at-byte), omega (arith, s .at-byte, s .low))
+
+  pub strip-rest : (h : List ℕ) → h ≡ put (box x1 x2 ((next - 1) / 30) y2) (packedFrom (first + ((next - 1) / 30 - y1) * w) x1 ((next - 1) / 30) w bits) g
+      → h ≡ put (box x1 x2 y1 y2) (packedFrom first x1 y1 w bits) g₀
+  strip-rest h q =
+      rw row-reached at q ∙ put-same (box x1 x2 (s .row) y2) (box x1 x2 (s .row) y2) (packedFrom (first + (s .row - y1) * w) x1 (s .row) w bits) (packedFrom first x1 y1 w bits) g (λ u v on. refl)
+      (λ u v on t. let b = within-true (s .row) y2 v (and-two (within x1 x2 u) (within (s .row) y2 v) t) in rest-bit bits first x1 y1 (s .row) w u v (s .low) (b .0))
+      ∙ ap (put (box x1 x2 (s .row) y2) (packedFrom first x1 y1 w bits)) (s .shows) ∙ put-put (box x1 x2 y1 (s .row)) (box x1 x2 (s .row) y2) (packedFrom first x1 y1 w bits) g₀
+      ∙ put-region (λ u v. box x1 x2 y1 (s .row) u v || box x1 x2 (s .row) y2 u v) (box x1 x2 y1 y2) (packedFrom first x1 y1 w bits) g₀
+      (λ u v on. sym (and-or-distrib-left (within x1 x2 u) (within y1 (s .row) v) (within (s .row) y2 v)) ∙ rw (within-join y1 (s .row) y2 v (s .low) (s .high)))
+
+  pub strip-done : 30 * y2 < next → g ≡ put (box x1 x2 y1 y2) (packedFrom first x1 y1 w bits) g₀
+  strip-done l = strip-whole x1 x2 y1 y2 w first (s .row) bits g₀ g (omega (arith, s .at-byte, s .high)) (s .shows)
 
 pub first-below : (d w : ℕ) → d < 1024 → w < 256 → d * w ≤ 260865
 first-below d w l m =
@@ -111,40 +121,49 @@ first-below d w l m =
 
 -- ---- the rows by pairs
 
--- the same, row y beginning in byte `at`
-pub record PairsPainted (x1 x2 y1 y2 w first y at k : ℕ) (bits g₀ g : List ℕ) : Type 0 where
-  pub at-byte : at ≡ cell x1 y
-  pub strip : StripPainted x1 x2 y1 y2 w first y k bits g₀ g
+-- the same, the second byte of the row number `next`
+pub record PairsPainted (x1 x2 y1 y2 w first next k : ℕ) (bits g₀ g : List ℕ) : Type 0 where
+  pub row : ℕ
+  pub at-byte : next ≡ cell x1 row + 1
+  pub strip : StripPainted x1 x2 y1 y2 w first row k bits g₀ g
 
 -- two bytes of the bits
 pub two-there : {n i : ℕ} → i < n - 1 → i + 1 < n
 two-there l = omega arith
 
 module _ {x1 x2 y1 y2 w first : ℕ} {bits g₀ : List ℕ} where
-  -- the row lies above row y2, and its two bytes in the framebuffer
-  pub pair-there : {y at k e : ℕ} {g : List ℕ} → PairsPainted x1 x2 y1 y2 w first y at k bits g₀ g → e ≡ rowStart (length g₀) y2 → at + 1 < e → (y < y2) × (at + 1 < length g)
-  pair-there s e l = (omega (arith, s .at-byte), omega (arith, s .strip .long))
+  pub pairs-start : {next : ℕ} → Bytes g₀ → y1 ≤ y2 → next ≡ cell x1 y1 + 1 → PairsPainted x1 x2 y1 y2 w first next first bits g₀ g₀
+  pairs-start b l e = record { row = y1; at-byte = e; strip = strip-start b l }
 
-  pub pairs-step : {y at k m p n s : ℕ} {g h : List ℕ} → PairsPainted x1 x2 y1 y2 w first y at k bits g₀ g → y < y2 → x1 < x2 → x2 ≤ x1 + 8 → x2 ≤ width → w < 256 → Bytes bits
-      → s ≡ x1 % 8 → m ≡ swapped (columnMask s (s + (x2 - x1))) → p ≡ pairOf bits (k / 8) → n ≡ swapped p → h ≡ putPair at m (swapped (n * 2 ^ (k % 8) % 65536 / 2 ^ s)) g
-      → PairsPainted x1 x2 y1 y2 w first (y + 1) (at + 30) (k + w) bits g₀ h
-  pairs-step {y} {at} {k} {m} {p} {n} {s} {g} {h} o l some few inside hw bs es em ep en d =
-      record { at-byte = omega (arith, o .at-byte); strip = strip-step (o .strip) l few hw (rw (en, ep) (pair-window bits k bs)) row }
+  pub pairs-end : {next k : ℕ} {g : List ℕ} → PairsPainted x1 x2 y1 y2 w first next k bits g₀ g → RowsReached x1 x2 y1 y2 w first next bits g₀ g
+  pairs-end s = record { row = s .row; at-byte = s .at-byte; low = s .strip .low; high = s .strip .high; shows = s .strip .shows }
+
+  -- the row lies above row y2, and its two bytes in the framebuffer
+  pub pair-there : {next k e : ℕ} {g : List ℕ} (o : PairsPainted x1 x2 y1 y2 w first next k bits g₀ g) → e ≡ min (30 * y2) (length g₀) → next < e → (o .row < y2) × (next - 1 + 1 < length g)
+  pair-there o e l = (omega (arith, o .at-byte), omega (arith, o .at-byte, o .strip .long))
+
+  pub pairs-step : {next k m p n s : ℕ} {g h : List ℕ} (o : PairsPainted x1 x2 y1 y2 w first next k bits g₀ g) → o .row < y2 → x1 < x2 → x2 ≤ x1 + 8 → x2 ≤ width → w < 256
+      → Bytes bits → s ≡ x1 % 8 → m ≡ swapped (columnMask s (x2 - x1)) → p ≡ pairOf bits (k / 8) → n ≡ swapped p
+      → h ≡ putPair (next - 1) m (swapped (n * 2 ^ (k % 8) % 65536 / 2 ^ s)) g → PairsPainted x1 x2 y1 y2 w first (next + 30) (k + w) bits g₀ h
+  pairs-step {next} {k} {m} {p} {n} {s} {g} {h} o l some few inside hw bs es em ep en d =
+      record { row = o .row + 1; at-byte = omega (arith, o .at-byte); strip = strip-step (o .strip) l few hw (rw (en, ep) (pair-window bits k bs)) painted }
     where
-      row : h ≡ put (span x1 x2 y) (bitsFrom x1 (n * 2 ^ (k % 8) % 65536 / 256)) g
-      row = d ∙ rw em (pair-painted g x1 x2 y at (columnMask s (s + (x2 - x1))) (n * 2 ^ (k % 8) % 65536) s (subst Bytes (sym (o .strip .shows)) (bytes-repaint _ g₀)) some few inside es (o .at-byte) refl (omega arith))
+      painted : h ≡ put (span x1 x2 (o .row)) (bitsFrom x1 (n * 2 ^ (k % 8) % 65536 / 256)) g
+      painted =
+          d ∙ rw em (pair-painted g x1 x2 (o .row) (next - 1) (columnMask s (x2 - x1)) (n * 2 ^ (k % 8) % 65536) s (subst Bytes (sym (o .strip .shows)) (bytes-repaint _ g₀)) some few inside es
+          (omega (arith, o .at-byte)) refl (omega arith))
 
 -- ---- a byte on one row, its columns cut to the framebuffer
 
 module _ (g : List ℕ) (x1 x2 y right at b : ℕ) (er : right ≡ min x2 width) (ea : at ≡ cell x1 y) where
-  pub byte-painted : {a m s : ℕ} (h : List ℕ) → Bytes g → b < 256 → x1 < right → x2 ≤ x1 + 8 → s ≡ x1 % 8 → m ≡ swapped (columnMask s (s + (right - x1))) → a ≡ b
+  pub byte-painted : {a m s : ℕ} (h : List ℕ) → Bytes g → b < 256 → x1 < right → x2 ≤ x1 + 8 → s ≡ x1 % 8 → m ≡ swapped (columnMask s (right - x1)) → a ≡ b
       → h ≡ putPair at m (swapped (256 * a / 2 ^ s)) g → h ≡ put (span x1 x2 y) (bitsFrom x1 b) g
   byte-painted {a} {m} {s} h bs small l few es em e d =
       let z : 256 * b / 256 ≡ b = omega arith in
       row ∙ rw z (put-region (span x1 right y) (span x1 x2 y) (bitsFrom x1 b) g (λ u v on. rw (er, within-cut x1 x2 width u (on .0))))
     where
       row : h ≡ put (span x1 right y) (bitsFrom x1 (256 * b / 256)) g
-      row = d ∙ rw (em, e) (pair-painted g x1 right y at (columnMask s (s + (right - x1))) (256 * b) s bs l (omega arith) (omega arith) es ea refl (omega arith))
+      row = d ∙ rw (em, e) (pair-painted g x1 right y at (columnMask s (right - x1)) (256 * b) s bs l (omega arith) (omega arith) es ea refl (omega arith))
 
   -- in the last byte of the framebuffer, or behind it
   pub byte-last : (h : List ℕ) → length g ≤ at + 1 → h ≡ put (span x1 (cellEnd x1 right) y) (bitsFrom x1 b) g → h ≡ put (span x1 x2 y) (bitsFrom x1 b) g

@@ -4,16 +4,15 @@ use canvas::STRIDE;
 use canvas::WIDTH;
 use canvas::cell;
 use canvas::least;
-use canvas::row_start;
 use spans::paint_cell;
 use spans::window;
 ghost use mathlib.Core.Path.{_≡_};
-ghost use Prim.Native.Nat.{_+_, _-_, _*_, _/_, _<_, _≤_};
+ghost use Prim.Native.Nat.{_+_, _<_, _≤_, min};
 ghost use lib.ListN.{length};
 ghost use Rattle.pixels.specs.Framebuffer.{put, width};
 ghost use Rattle.pixels.specs.Regions.{span, box};
 ghost use Rattle.spans.specs.Bits.{bitsFrom};
-ghost use Rattle.bitmap.specs.Pairs.{pairOf, swapped, columnMask, putPair, BlendedPair, packedFrom};
+ghost use Rattle.bitmap.specs.Pairs.{pairOf, swapped, columnMask, putPair, BlendedPair, RowsReached, packedFrom};
 ghost use Rattle.bitmap.specs.Inline.{PlaceIs};
 ghost use Rattle.bitmap.specs.Bitmaps.{packedBox, inlineByte};
 
@@ -38,12 +37,12 @@ fn swapped(n: u16) -> u16
     256 * (n % 256) + n / 256
 }
 
-// The pair whose bits in columns `start` up to, and not with, `stop` are set.
-fn pair_mask(start: u16, stop: u16) -> u16
-    requires { ⌜ (start < 16) × (stop < 16) ⌝ }
-    ensures { λ r. ⌜ r ≡ swapped (columnMask start stop) ⌝ }
+// The pair whose bits in the n columns from `start` on are set.
+fn pair_mask(start: u16, n: u16) -> u16
+    requires { ⌜ (start < 8) × (n < 9) ⌝ }
+    ensures { λ r. ⌜ r ≡ swapped (columnMask start n) ⌝ }
 {
-    swapped((65535u16 >> start) & !(65535u16 >> stop))
+    swapped(!(65535u16 >> n) >> start)
 }
 
 // A pair whose bits under the mask are those of another: by `^`, which needs no inverted mask at hand.
@@ -73,7 +72,7 @@ fn paint_byte(framebuffer: &mut [u8], x1: u16, x2: u16, y: u16, byte: u8)
         let at = cell(x1, y);
         if at + 1 < framebuffer.len() {
             let start = x1 % 8;
-            let mask = pair_mask(start, start + (right - x1));
+            let mask = pair_mask(start, right - x1);
             let columns = 256 * word(byte);
             paint_pair(framebuffer, at, mask, columns >> start);
         } else {
@@ -82,51 +81,55 @@ fn paint_byte(framebuffer: &mut [u8], x1: u16, x2: u16, y: u16, byte: u8)
     }
 }
 
+fn lesser(a: usize, b: usize) -> usize
+    ensures { λ r. ⌜ r ≡ min a b ⌝ }
+{
+    if a < b { a } else { b }
+}
+
 // Columns x1 up to, and not with, x2, at most eight of them, of rows from y1 on, as many as lie in two bytes of the framebuffer above
-// row y2 and begin in two bytes of the bits. The answer is the row behind them.
+// row y2 and begin in two bytes of the bits. The answer is the second byte of the row behind them.
 fn paint_pairs(
     framebuffer: &mut [u8],
     x1: u16,
     x2: u16,
-    y1: u16,
-    y2: u16,
+    y1: usize,
+    y2: usize,
     w: u8,
     first: usize,
     bits: &[u8],
-) -> u16
+) -> usize
     requires { ⌜ (x1 < x2) × (x2 ≤ x1 + 8) × (x2 ≤ width) × (y1 ≤ y2) × (y2 < 1024) × (first < 256) ⌝ }
-    ensures { λ r. ⌜ (now (framebuffer .exit) ≡ put (box x1 x2 y1 r) (packedFrom first x1 y1 w (now (bits .entry))) (now (framebuffer .entry))) × (y1 ≤ r) × (r ≤ y2) ⌝ }
+    ensures { λ r. ⌜ RowsReached x1 x2 y1 y2 w first r (now (bits .entry)) (now (framebuffer .entry)) (now (framebuffer .exit)) ⌝ }
 {
+    let mut next = STRIDE * y1 + (x1 / 8) as usize + 1;
     if bits.len() == 0 {
-        return y1;
+        return next;
     }
     let last = bits.len() - 1;
-    let end = row_start(framebuffer.len(), y2);
+    let end = lesser(STRIDE * y2, framebuffer.len());
     let start = x1 % 8;
-    let mask = pair_mask(start, start + (x2 - x1));
-    let mut y = y1;
-    let mut at = cell(x1, y1);
+    let mask = pair_mask(start, x2 - x1);
     let mut k = first;
-    while at + 1 < end {
+    while next < end {
         if last <= k / 8 {
-            return y;
+            return next;
         }
         let columns = swapped(pair_at(bits, k / 8)) << (k % 8);
-        paint_pair(framebuffer, at, mask, columns >> start);
-        y += 1;
-        at += STRIDE;
+        paint_pair(framebuffer, next - 1, mask, columns >> start);
+        next += STRIDE;
         k += w as usize;
     }
-    y
+    next
 }
 
-// The same columns of rows y1 up to, and not with, y2, row by row.
+// The same columns of rows y1 up to, and not with, y2, each looked at by itself.
 fn paint_rows(
     framebuffer: &mut [u8],
     x1: u16,
     x2: u16,
-    y1: u16,
-    y2: u16,
+    y1: usize,
+    y2: usize,
     w: u8,
     first: usize,
     bits: &[u8],
@@ -137,22 +140,23 @@ fn paint_rows(
     let mut y = y1;
     let mut k = first;
     while y < y2 {
-        if framebuffer.len() <= cell(x1, y) {
+        let row = y as u16;
+        if framebuffer.len() <= cell(x1, row) {
             return;
         }
-        paint_byte(framebuffer, x1, x2, y, window(bits, k));
+        paint_byte(framebuffer, x1, x2, row, window(bits, k));
         y += 1;
         k += w as usize;
     }
 }
 
-// The same of all rows: by pairs as far as that goes.
+// All of these rows: by pairs as far as that goes.
 fn paint_strip(
     framebuffer: &mut [u8],
     x1: u16,
     x2: u16,
-    y1: u16,
-    y2: u16,
+    y1: usize,
+    y2: usize,
     w: u8,
     first: usize,
     bits: &[u8],
@@ -160,8 +164,9 @@ fn paint_strip(
     requires { ⌜ (x1 < x2) × (x2 ≤ x1 + 8) × (x2 ≤ width) × (y1 ≤ y2) × (y2 < 1024) × (first < 256) ⌝ }
     ensures { λ _. ⌜ now (framebuffer .exit) ≡ put (box x1 x2 y1 y2) (packedFrom first x1 y1 w (now (bits .entry))) (now (framebuffer .entry)) ⌝ }
 {
-    let y = paint_pairs(framebuffer, x1, x2, y1, y2, w, first, bits);
-    if y < y2 {
+    let next = paint_pairs(framebuffer, x1, x2, y1, y2, w, first, bits);
+    if next <= STRIDE * y2 {
+        let y = (next - 1) / STRIDE;
         paint_rows(
             framebuffer,
             x1,
@@ -169,7 +174,7 @@ fn paint_strip(
             y,
             y2,
             w,
-            first + (y - y1) as usize * (w as usize),
+            first + (y - y1) * (w as usize),
             bits,
         );
     }
@@ -181,8 +186,8 @@ pub fn paint_packed(framebuffer: &mut [u8], x: u16, y: u8, w: u8, h: u8, bits: &
 {
     if x < WIDTH {
         let right = least(x + w as u16, WIDTH);
-        let top = y as u16;
-        let bottom = top + h as u16;
+        let top = y as usize;
+        let bottom = top + h as usize;
         let mut left = x;
         while left < right {
             let end = least(left + 8, right);

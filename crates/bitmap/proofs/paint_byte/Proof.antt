@@ -16,9 +16,6 @@ add-if2 c = search needs
 sub-pair-mask : tie.Need-sub-pair-mask
 sub-pair-mask c = search needs
 
-add-pair-mask : tie.Need-add-pair-mask
-add-pair-mask c = search needs
-
 pair-mask-requires : tie.Need-pair-mask-requires
 pair-mask-requires c κs = search needs
 
@@ -69,7 +66,6 @@ paint-byte-spec =
     cell-requires
     add-if2
     sub-pair-mask
-    add-pair-mask
     pair-mask-requires
     word-requires
     mul-columns

@@ -14,6 +14,9 @@ abbrev μ-loop : tie.MeasureT-loop
 loop-holds : tie.Need-loop-holds Inv-loop μ-loop
 loop-holds c = strip-start (λ i. c .before .slice-known .given i .fits) (search needs)
 
+cast-row : tie.Need-cast-row Inv-loop μ-loop
+cast-row c = search needs
+
 cell-requires : tie.Need-cell-requires Inv-loop μ-loop
 cell-requires c κs = search needs
 
@@ -54,6 +57,7 @@ paint-rows-spec =
     Inv-loop
     μ-loop
     loop-holds
+    cast-row
     cell-requires
     same-length
     returns
