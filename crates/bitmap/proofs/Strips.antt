@@ -43,7 +43,7 @@ unfolding packedFrom packed
 strip-bit bits x left y w u v l m = let q : left - x + (v - y) * w + (u - left) ≡ (v - y) * w + (u - x) = omega arith in rw q
 
 -- up to the last row
-pub strip-whole : (x1 x2 y1 y2 w first y : ℕ) (bits g₀ g : List ℕ) → y ≡ y2 → g ≡ put (box x1 x2 y1 y) (packedFrom first x1 y1 w bits) g₀
+strip-whole : (x1 x2 y1 y2 w first y : ℕ) (bits g₀ g : List ℕ) → y ≡ y2 → g ≡ put (box x1 x2 y1 y) (packedFrom first x1 y1 w bits) g₀
     → g ≡ put (box x1 x2 y1 y2) (packedFrom first x1 y1 w bits) g₀
 strip-whole x1 x2 y1 y2 w first y bits g₀ g e q = q ∙ ap (λ (n : ℕ). put (box x1 x2 y1 n) (packedFrom first x1 y1 w bits) g₀) e
 
@@ -96,7 +96,7 @@ module _ {x1 x2 y1 y2 w first : ℕ} {bits g₀ : List ℕ} where
 
 -- the rest after the rows that were painted by pairs
 module _ {x1 x2 y1 y2 w first next : ℕ} {bits g₀ g : List ℕ} (s : RowsReached x1 x2 y1 y2 w first next bits g₀ g) (inside : x1 < width) where
-  pub row-reached : (next - 1) / 30 ≡ s .row
+  row-reached : (next - 1) / 30 ≡ s .row
   row-reached = omega (arith, s .at-byte)
 
   pub row-left : next ≤ 30 * y2 → ((next - 1) / 30 < y2) × (y1 ≤ (next - 1) / 30)
