@@ -1,5 +1,5 @@
-pub mod Bits
 pub mod Examples
 pub mod Footprint
+pub mod Inline
 pub mod Pairs
-pub mod Short
+pub mod Strips

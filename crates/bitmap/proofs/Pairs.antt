@@ -108,33 +108,33 @@ in-order : (s : List ℕ) (i : ℕ) → Bytes s → swapped (pairOf s i) ≡ 256
 unfolding swapped pairOf
 in-order s i h = omega (arith, h i, h (i + 1))
 
--- ---- the mask of columns s up to e, in each of the two bytes
+-- ---- the mask of n columns from column s on, in each of the two bytes
 
-left-mask : (s e : ℕ) → s < 8 → e < 16 → columnMask s e / 256 ≡ bitAnd (255 / 2 ^ s) (255 - 255 / 2 ^ min e 8)
+left-mask : (s n : ℕ) → s < 8 → n < 9 → columnMask s n / 256 ≡ bitAnd (255 / 2 ^ s) (255 - 255 / 2 ^ min (s + n) 8)
 unfolding columnMask
-left-mask s e hs he =
-    eqb-true (columnMask s e / 256) (bitAnd (255 / 2 ^ s) (255 - 255 / 2 ^ min e 8))
-    (agree 8 16 (λ s e. eqb (columnMask s e / 256) (bitAnd (255 / 2 ^ s) (255 - 255 / 2 ^ min e 8))) (λ s e. true) refl s e hs he)
+left-mask s n hs hn =
+    eqb-true (columnMask s n / 256) (bitAnd (255 / 2 ^ s) (255 - 255 / 2 ^ min (s + n) 8))
+    (agree 8 9 (λ s n. eqb (columnMask s n / 256) (bitAnd (255 / 2 ^ s) (255 - 255 / 2 ^ min (s + n) 8))) (λ s n. true) refl s n hs hn)
 
-right-mask : (s e : ℕ) → s < 8 → e < 16 → columnMask s e % 256 ≡ bitAnd 255 (255 - 255 / 2 ^ (e - 8))
+right-mask : (s n : ℕ) → s < 8 → n < 9 → columnMask s n % 256 ≡ bitAnd 255 (255 - 255 / 2 ^ (s + n - 8))
 unfolding columnMask
-right-mask s e hs he =
-    eqb-true (columnMask s e % 256) (bitAnd 255 (255 - 255 / 2 ^ (e - 8)))
-    (agree 8 16 (λ s e. eqb (columnMask s e % 256) (bitAnd 255 (255 - 255 / 2 ^ (e - 8)))) (λ s e. true) refl s e hs he)
+right-mask s n hs hn =
+    eqb-true (columnMask s n % 256) (bitAnd 255 (255 - 255 / 2 ^ (s + n - 8)))
+    (agree 8 9 (λ s n. eqb (columnMask s n % 256) (bitAnd 255 (255 - 255 / 2 ^ (s + n - 8)))) (λ s n. true) refl s n hs hn)
 
-mask-lt : (s e : ℕ) → columnMask s e < 65536
+mask-lt : (s n : ℕ) → columnMask s n < 65536
 unfolding columnMask
-mask-lt s e = omega (arith, and-le-l (65535 / 2 ^ s) (65535 - 65535 / 2 ^ e), shr-le 65535 s)
+mask-lt s n = omega (arith, shr-le (65535 - 65535 / 2 ^ n) s)
 
 -- ---- up to eight columns painted, from the highest bit of n on
 
 module _ (g : List ℕ) (x1 x2 y i m n s : ℕ) (bs : Bytes g) (some : x1 < x2) (few : x2 ≤ x1 + 8) (inside : x2 ≤ width) (es : s ≡ x1 % 8) (ei : i ≡ cell x1 y)
-    (em : m ≡ columnMask s (s + (x2 - x1))) (small : n < 65536) where
+    (em : m ≡ columnMask s (x2 - x1)) (small : n < 65536) where
   -- the columns in the first byte
   left-painted : put (masked i (m / 256)) (cellBits (n / 2 ^ s / 256)) g ≡ put (span x1 (min (8 * (x1 / 8) + 8) x2) y) (bitsFrom x1 (n / 256)) g
   left-painted =
       cell-painted g (put (masked i (m / 256)) (cellBits (n / 2 ^ s / 256)) g) x1 (min (8 * (x1 / 8) + 8) x2) y (n / 256) i (m / 256) s (min (s + (x2 - x1)) 8)
-      (omega arith) (omega arith) (omega arith) es (omega arith) ei (rw em (left-mask s (s + (x2 - x1)) (omega arith) (omega arith)))
+      (omega arith) (omega arith) (omega arith) es (omega arith) ei (rw em (left-mask s (x2 - x1) (omega arith) (omega arith)))
       (let e : n / 2 ^ s / 256 ≡ n / 256 / 2 ^ s = shr-shr n s 8 ∙ (let z : s + 8 ≡ 8 + s = omega arith in rw z) ∙ sym (shr-shr n 8 s) in rw e)
 
   -- those in the second, if there are any
@@ -142,13 +142,13 @@ module _ (g : List ℕ) (x1 x2 y i m n s : ℕ) (bs : Bytes g) (some : x1 < x2) 
       → put (masked (i + 1) (m % 256)) (cellBits (n / 2 ^ s % 256)) h ≡ put (span (8 * (x1 / 8) + 8) x2 y) (bitsFrom (8 * (x1 / 8) + 8) (n / 2 ^ s % 256)) h
   right-painted h l =
       cell-painted h (put (masked (i + 1) (m % 256)) (cellBits (n / 2 ^ s % 256)) h) (8 * (x1 / 8) + 8) x2 y (n / 2 ^ s % 256) (i + 1) (m % 256) 0 (s + (x2 - x1) - 8)
-      l (omega arith) (omega arith) (omega arith) (omega arith) (omega arith) (rw em (right-mask s (s + (x2 - x1)) (omega arith) (omega arith)))
+      l (omega arith) (omega arith) (omega arith) (omega arith) (omega arith) (rw em (right-mask s (x2 - x1) (omega arith) (omega arith)))
       (let d : n / 2 ^ s % 256 / 2 ^ 0 ≡ n / 2 ^ s % 256 = omega arith in rw d)
 
   right-none : (h : List ℕ) → Bytes h → x2 ≤ 8 * (x1 / 8) + 8 → h ≡ put (masked (i + 1) (m % 256)) (cellBits (n / 2 ^ s % 256)) h
   right-none h b l =
       let e : s + (x2 - x1) - 8 ≡ 0 = omega arith in
-      let z : m % 256 ≡ 0 = rw em (right-mask s (s + (x2 - x1)) (omega arith) (omega arith) ∙ rw e) in
+      let z : m % 256 ≡ 0 = rw em (right-mask s (x2 - x1) (omega arith) (omega arith) ∙ rw e) in
       put-off (masked (i + 1) (m % 256)) (cellBits (n / 2 ^ s % 256)) h b (λ u v on. rw (z, bit-zero (u % 8)) (and-false (eqb (cell u v) (i + 1))))
 
   right-bit : (u : ℕ) → 8 * (x1 / 8) + 8 ≤ u → u < x2 → bitsFrom (8 * (x1 / 8) + 8) (n / 2 ^ s % 256) u y ≡ bitsFrom x1 (n / 256) u y
@@ -160,7 +160,7 @@ module _ (g : List ℕ) (x1 x2 y i m n s : ℕ) (bs : Bytes g) (some : x1 < x2) 
   pub pair-painted : putPair i (swapped m) (swapped (n / 2 ^ s)) g ≡ put (span x1 x2 y) (bitsFrom x1 (n / 256)) g
   unfolding putPair
   pair-painted =
-      rw (swapped-first m (rw em (mask-lt s (s + (x2 - x1)))), swapped-second m (rw em (mask-lt s (s + (x2 - x1)))), swapped-first (n / 2 ^ s) (omega (arith, shr-le n s)), swapped-second (n / 2 ^ s) (omega (arith, shr-le n s)))
+      rw (swapped-first m (rw em (mask-lt s (x2 - x1))), swapped-second m (rw em (mask-lt s (x2 - x1))), swapped-first (n / 2 ^ s) (omega (arith, shr-le n s)), swapped-second (n / 2 ^ s) (omega (arith, shr-le n s)))
       (ap (put (masked (i + 1) (m % 256)) (cellBits (n / 2 ^ s % 256))) left-painted
       ∙ elim (decLt (8 * (x1 / 8) + 8) x2) [
         | yes l ↦ (let e : min (8 * (x1 / 8) + 8) x2 ≡ 8 * (x1 / 8) + 8 = omega arith in

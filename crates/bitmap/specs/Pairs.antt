@@ -3,10 +3,10 @@
 -- Assumes nothing.
 use mathlib.Core.Path.{_≡_}
 use mathlib.Core.List.{List}
-use Prim.Native.Nat.{ℕ, _+_, _-_, _*_, _/_, _%_, _^_}
-use lib.Bits.{bitAnd}
+use Prim.Native.Nat.{ℕ, _+_, _-_, _*_, _/_, _%_, _^_, _≤_}
 use lib.ListN.{getD}
-use Rattle.pixels.specs.Framebuffer.{Picture, put}
+use Rattle.pixels.specs.Framebuffer.{Picture, cell, put}
+use Rattle.pixels.specs.Regions.{box}
 use Rattle.canvas.specs.Canvas.{masked}
 use Rattle.spans.specs.Bits.{packedBit, blendedOf, cellBits}
 
@@ -18,9 +18,9 @@ pairOf s i = getD s i 0 + 256 * getD s (i + 1) 0
 unfoldable pub swapped : ℕ → ℕ
 swapped n = 256 * (n % 256) + n / 256
 
--- columns s up to e of sixteen
+-- n columns of sixteen, from column s on
 unfoldable pub columnMask : ℕ → ℕ → ℕ
-columnMask s e = bitAnd (65535 / 2 ^ s) (65535 - 65535 / 2 ^ e)
+columnMask s n = (65535 - 65535 / 2 ^ n) / 2 ^ s
 
 -- pair r: pair a, its bits under mask m those of pair b
 pub record BlendedPair (a m b r : ℕ) : Type 0 where
@@ -31,10 +31,14 @@ pub record BlendedPair (a m b r : ℕ) : Type 0 where
 unfoldable pub putPair : ℕ → ℕ → ℕ → List ℕ → List ℕ
 putPair i m b g = put (masked (i + 1) (m / 256)) (cellBits (b / 256)) (put (masked i (m % 256)) (cellBits (b % 256)) g)
 
--- a row of bits from number k on, its first one in column x
-unfoldable pub rowBits : ℕ → ℕ → List ℕ → Picture
-rowBits k x bits u v = packedBit bits (k + (u - x))
-
 -- rows of w bits from number k on, the first one at (x, y)
 unfoldable pub packedFrom : ℕ → ℕ → ℕ → ℕ → List ℕ → Picture
 packedFrom k x y w bits u v = packedBit bits (k + (v - y) * w + (u - x))
+
+-- of rows y1 up to y2 those painted that lie above a row whose second byte is number `next`
+pub record RowsReached (x1 x2 y1 y2 w first next : ℕ) (bits g₀ g : List ℕ) : Type 0 where
+  pub row : ℕ
+  pub at-byte : next ≡ cell x1 row + 1
+  pub low : y1 ≤ row
+  pub high : row ≤ y2
+  pub shows : g ≡ put (box x1 x2 y1 row) (packedFrom first x1 y1 w bits) g₀

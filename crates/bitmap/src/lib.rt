@@ -1,23 +1,20 @@
 // Bitmaps: packed ones (glyphs, saved bitmaps) and data in line. What lies beyond the framebuffer is clipped.
-// Up to eight columns of a row lie in two bytes, which are painted at once; more of them go byte by byte.
+// Up to eight columns of a row lie in two bytes, which are painted at once.
 use canvas::STRIDE;
 use canvas::WIDTH;
 use canvas::cell;
 use canvas::least;
-use canvas::row_start;
-use canvas::rows_between;
-use spans::cell_end;
 use spans::paint_cell;
 use spans::window;
 ghost use mathlib.Core.Path.{_≡_};
-ghost use Prim.Native.Nat.{_+_, _-_, _*_, _/_, _<_, _≤_};
+ghost use Prim.Native.Nat.{_+_, _<_, _≤_, min};
 ghost use lib.ListN.{length};
 ghost use Rattle.pixels.specs.Framebuffer.{put, width};
 ghost use Rattle.pixels.specs.Regions.{span, box};
 ghost use Rattle.spans.specs.Bits.{bitsFrom};
-ghost use Rattle.bitmap.specs.Pairs.{pairOf, swapped, columnMask, putPair, BlendedPair, rowBits, packedFrom};
+ghost use Rattle.bitmap.specs.Pairs.{pairOf, swapped, columnMask, putPair, BlendedPair, RowsReached, packedFrom};
 ghost use Rattle.bitmap.specs.Inline.{PlaceIs};
-ghost use Rattle.bitmap.specs.Bitmaps.{packed, packedBox, inlineByte};
+ghost use Rattle.bitmap.specs.Bitmaps.{packedBox, inlineByte};
 
 fn word(x: u8) -> u16
     ensures { λ r. ⌜ (r ≡ x) × (r < 256) ⌝ }
@@ -40,12 +37,12 @@ fn swapped(n: u16) -> u16
     256 * (n % 256) + n / 256
 }
 
-// The pair whose bits in columns `start` up to, and not with, `stop` are set.
-fn pair_mask(start: u16, stop: u16) -> u16
-    requires { ⌜ (start < 16) × (stop < 16) ⌝ }
-    ensures { λ r. ⌜ r ≡ swapped (columnMask start stop) ⌝ }
+// The pair whose bits in the n columns from `start` on are set.
+fn pair_mask(start: u16, n: u16) -> u16
+    requires { ⌜ (start < 8) × (n < 9) ⌝ }
+    ensures { λ r. ⌜ r ≡ swapped (columnMask start n) ⌝ }
 {
-    swapped((65535u16 >> start) & !(65535u16 >> stop))
+    swapped(!(65535u16 >> n) >> start)
 }
 
 // A pair whose bits under the mask are those of another: by `^`, which needs no inverted mask at hand.
@@ -65,130 +62,6 @@ fn paint_pair(framebuffer: &mut [u8], at: usize, mask: u16, columns: u16)
     framebuffer[at + 1] = (both / 256) as u8;
 }
 
-// Columns x1 up to, and not with, x2 of rows from y1 on: as many of them as are short, lie in two bytes of the framebuffer
-// above row y2, and begin in two bytes of the bits. The answer is their number.
-fn paint_short(
-    framebuffer: &mut [u8],
-    x1: u16,
-    x2: u16,
-    y1: u16,
-    y2: u16,
-    w: u8,
-    bits: &[u8],
-) -> u16
-    requires { ⌜ (x2 ≤ width) × (y1 ≤ y2) × (y2 < 1024) ⌝ }
-    ensures { λ r. ⌜ (now (framebuffer .exit) ≡ put (box x1 x2 y1 (y1 + r)) (packed x1 y1 w (now (bits .entry))) (now (framebuffer .entry))) × (y1 + r ≤ y2) ⌝ }
-{
-    if x2 <= x1 {
-        return 0;
-    }
-    if x2 - x1 > 8 {
-        return 0;
-    }
-    if bits.len() == 0 {
-        return 0;
-    }
-    let last = bits.len() - 1;
-    let end = row_start(framebuffer.len(), y2);
-    let start = x1 % 8;
-    let mask = pair_mask(start, start + (x2 - x1));
-    let mut rows = 0;
-    let mut at = cell(x1, y1);
-    let mut k = 0;
-    while at + 1 < end {
-        if last <= k / 8 {
-            return rows;
-        }
-        let columns = swapped(pair_at(bits, k / 8)) << (k % 8);
-        paint_pair(framebuffer, at, mask, columns >> start);
-        rows += 1;
-        at += STRIDE;
-        k += w as usize;
-    }
-    rows
-}
-
-// Columns x1 up to, and not with, x2 of row y, from bit number `first` on.
-fn paint_row(rows: &mut [u8], x1: u16, x2: u16, y: u16, first: usize, bits: &[u8])
-    requires { ⌜ first < 4294967296 ⌝ }
-    ensures { λ _. ⌜ now (rows .exit) ≡ put (span x1 x2 y) (rowBits first x1 (now (bits .entry))) (now (rows .entry)) ⌝ }
-{
-    let mut x = x1;
-    let mut k = first;
-    while x < x2 {
-        let end = cell_end(x, x2);
-        paint_cell(rows, x, x2, y, window(bits, k));
-        k += (end - x) as usize;
-        x = end;
-    }
-}
-
-// Columns x1 up to, and not with, x2 of the first n rows that are lent, from bit number `first` on, each row w bits further on.
-fn paint_rows(rows: &mut [u8], x1: u16, x2: u16, n: u16, w: u8, first: usize, bits: &[u8])
-    requires { ⌜ first < 65536 * 256 ⌝ }
-    ensures { λ _. ⌜ now (rows .exit) ≡ put (box x1 x2 0 n) (packedFrom first x1 0 w (now (bits .entry))) (now (rows .entry)) ⌝ }
-{
-    let mut y = 0;
-    let mut k = first;
-    while y < n {
-        paint_row(rows, x1, x2, y, k, bits);
-        y += 1;
-        k += w as usize;
-    }
-}
-
-// Columns x1 up to, and not with, x2 of rows y1 up to, and not with, y2, from bit number `first` on: only those rows are lent on.
-fn paint_bits(
-    framebuffer: &mut [u8],
-    x1: u16,
-    x2: u16,
-    y1: u16,
-    y2: u16,
-    w: u8,
-    first: usize,
-    bits: &[u8],
-)
-    requires { ⌜ (first < 65536 * 256) × (x2 ≤ width) ⌝ }
-    ensures { λ _. ⌜ now (framebuffer .exit) ≡ put (box x1 x2 y1 y2) (packedFrom first x1 y1 w (now (bits .entry))) (now (framebuffer .entry)) ⌝ }
-{
-    let rows = rows_between(framebuffer.len(), y1, y2);
-    let from = rows.from;
-    let to = rows.to;
-    paint_rows(
-        &mut framebuffer[from..to],
-        x1,
-        x2,
-        rows.count,
-        w,
-        first,
-        bits,
-    );
-}
-
-// A glyph or a saved bitmap of w by h bits, its upper left corner at (x, y).
-pub fn paint_packed(framebuffer: &mut [u8], x: u16, y: u8, w: u8, h: u8, bits: &[u8])
-    ensures { λ _. ⌜ now (framebuffer .exit) ≡ packedBox x y w h (now (bits .entry)) (now (framebuffer .entry)) ⌝ }
-{
-    if x < WIDTH {
-        let right = least(x + w as u16, WIDTH);
-        let top = y as u16;
-        let bottom = top + h as u16;
-        let done = paint_short(framebuffer, x, right, top, bottom, w, bits);
-        if top + done < bottom {
-            paint_bits(
-                framebuffer,
-                x,
-                right,
-                top + done,
-                bottom,
-                w,
-                done as usize * (w as usize),
-                bits,
-            );
-        }
-    }
-}
-
 // Columns x1 up to, and not with, x2 of row y, at most eight of them, from the highest bit of a byte on.
 fn paint_byte(framebuffer: &mut [u8], x1: u16, x2: u16, y: u16, byte: u8)
     requires { ⌜ (x2 ≤ x1 + 8) × (x2 ≤ 256) ⌝ }
@@ -199,11 +72,136 @@ fn paint_byte(framebuffer: &mut [u8], x1: u16, x2: u16, y: u16, byte: u8)
         let at = cell(x1, y);
         if at + 1 < framebuffer.len() {
             let start = x1 % 8;
-            let mask = pair_mask(start, start + (right - x1));
+            let mask = pair_mask(start, right - x1);
             let columns = 256 * word(byte);
             paint_pair(framebuffer, at, mask, columns >> start);
         } else {
             paint_cell(framebuffer, x1, right, y, byte);
+        }
+    }
+}
+
+fn lesser(a: usize, b: usize) -> usize
+    ensures { λ r. ⌜ r ≡ min a b ⌝ }
+{
+    if a < b { a } else { b }
+}
+
+// Columns x1 up to, and not with, x2, at most eight of them, of rows from y1 on, as many as lie in two bytes of the framebuffer above
+// row y2 and begin in two bytes of the bits. The answer is the second byte of the row behind them.
+fn paint_pairs(
+    framebuffer: &mut [u8],
+    x1: u16,
+    x2: u16,
+    y1: usize,
+    y2: usize,
+    w: u8,
+    first: usize,
+    bits: &[u8],
+) -> usize
+    requires { ⌜ (x1 < x2) × (x2 ≤ x1 + 8) × (x2 ≤ width) × (y1 ≤ y2) × (y2 < 1024) × (first < 256) ⌝ }
+    ensures { λ r. ⌜ RowsReached x1 x2 y1 y2 w first r (now (bits .entry)) (now (framebuffer .entry)) (now (framebuffer .exit)) ⌝ }
+{
+    let mut next = STRIDE * y1 + (x1 / 8) as usize + 1;
+    if bits.len() == 0 {
+        return next;
+    }
+    let last = bits.len() - 1;
+    let end = lesser(STRIDE * y2, framebuffer.len());
+    let start = x1 % 8;
+    let mask = pair_mask(start, x2 - x1);
+    let mut k = first;
+    while next < end {
+        if last <= k / 8 {
+            return next;
+        }
+        let columns = swapped(pair_at(bits, k / 8)) << (k % 8);
+        paint_pair(framebuffer, next - 1, mask, columns >> start);
+        next += STRIDE;
+        k += w as usize;
+    }
+    next
+}
+
+// The same columns of rows y1 up to, and not with, y2, each looked at by itself.
+fn paint_rows(
+    framebuffer: &mut [u8],
+    x1: u16,
+    x2: u16,
+    y1: usize,
+    y2: usize,
+    w: u8,
+    first: usize,
+    bits: &[u8],
+)
+    requires { ⌜ (x2 ≤ x1 + 8) × (x2 ≤ width) × (y1 ≤ y2) × (y2 < 1024) × (first < 1000000) ⌝ }
+    ensures { λ _. ⌜ now (framebuffer .exit) ≡ put (box x1 x2 y1 y2) (packedFrom first x1 y1 w (now (bits .entry))) (now (framebuffer .entry)) ⌝ }
+{
+    let mut y = y1;
+    let mut k = first;
+    while y < y2 {
+        let row = y as u16;
+        if framebuffer.len() <= cell(x1, row) {
+            return;
+        }
+        paint_byte(framebuffer, x1, x2, row, window(bits, k));
+        y += 1;
+        k += w as usize;
+    }
+}
+
+// All of these rows: by pairs as far as that goes.
+fn paint_strip(
+    framebuffer: &mut [u8],
+    x1: u16,
+    x2: u16,
+    y1: usize,
+    y2: usize,
+    w: u8,
+    first: usize,
+    bits: &[u8],
+)
+    requires { ⌜ (x1 < x2) × (x2 ≤ x1 + 8) × (x2 ≤ width) × (y1 ≤ y2) × (y2 < 1024) × (first < 256) ⌝ }
+    ensures { λ _. ⌜ now (framebuffer .exit) ≡ put (box x1 x2 y1 y2) (packedFrom first x1 y1 w (now (bits .entry))) (now (framebuffer .entry)) ⌝ }
+{
+    let next = paint_pairs(framebuffer, x1, x2, y1, y2, w, first, bits);
+    if next <= STRIDE * y2 {
+        let y = (next - 1) / STRIDE;
+        paint_rows(
+            framebuffer,
+            x1,
+            x2,
+            y,
+            y2,
+            w,
+            first + (y - y1) * (w as usize),
+            bits,
+        );
+    }
+}
+
+// A glyph or a saved bitmap of w by h bits, its upper left corner at (x, y): strips of eight columns.
+pub fn paint_packed(framebuffer: &mut [u8], x: u16, y: u8, w: u8, h: u8, bits: &[u8])
+    ensures { λ _. ⌜ now (framebuffer .exit) ≡ packedBox x y w h (now (bits .entry)) (now (framebuffer .entry)) ⌝ }
+{
+    if x < WIDTH {
+        let right = least(x + w as u16, WIDTH);
+        let top = y as usize;
+        let bottom = top + h as usize;
+        let mut left = x;
+        while left < right {
+            let end = least(left + 8, right);
+            paint_strip(
+                framebuffer,
+                left,
+                end,
+                top,
+                bottom,
+                w,
+                (left - x) as usize,
+                bits,
+            );
+            left = end;
         }
     }
 }

@@ -89,7 +89,7 @@ pub struct Rows {
 }
 
 // The first byte of row y, or the end of a framebuffer of `len` bytes that has no such row.
-pub fn row_start(len: usize, y: u16) -> usize
+fn row_start(len: usize, y: u16) -> usize
     ensures { λ r. ⌜ r ≡ rowStart len y ⌝ }
 {
     let at = STRIDE * (y as usize);

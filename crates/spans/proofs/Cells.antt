@@ -62,15 +62,9 @@ pub end-of-byte : (x x2 : ℕ) → x < x2 → 8 - x % 8 ≤ x2 - x → x + (8 - 
 unfolding cellEnd
 end-of-byte x x2 h l = omega arith
 
--- what is known of it
-pub record Ends (x x2 e : ℕ) : Type 0 where
-  pub byte : e ≤ 8 * (x / 8) + 8
-  pub least : e ≤ x2
-  pub further : x < x2 → x < e
-
-pub ends : (x x2 e : ℕ) → e ≡ cellEnd x x2 → Ends x x2 e
+pub end-in-byte : (x x2 e : ℕ) → e ≡ cellEnd x x2 → e ≤ 8 * (x / 8) + 8
 unfolding cellEnd
-ends x x2 e h = record { byte = omega arith; least = omega arith; further = λ l. omega arith }
+end-in-byte x x2 e h = omega arith
 
 -- columns that are in one byte end where they end
 pub end-within : (x x2 : ℕ) → x2 ≤ 8 * (x / 8) + 8 → cellEnd x x2 ≡ x2

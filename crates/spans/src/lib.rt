@@ -47,7 +47,7 @@ fn blend(framebuffer: &mut [u8], at: usize, mask: u8, byte: u8)
 }
 
 // The column behind the byte of column x, or x2 if that comes first.
-pub fn cell_end(x: u16, x2: u16) -> u16
+fn cell_end(x: u16, x2: u16) -> u16
     ensures { λ r. ⌜ r ≡ cellEnd x x2 ⌝ }
 {
     if x2 <= x {

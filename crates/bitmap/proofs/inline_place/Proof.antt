@@ -2,7 +2,7 @@ use mathlib.Core.Path.{refl}
 use Prim.Native.Nat.{_+_, _-_, _/_}
 use native.Mathlib.Omega.{arith}
 use native.Mathlib.Nat.{div-le-self}
-use Rattle.bitmap.proofs.Bits.{across-in, place-is}
+use Rattle.bitmap.proofs.Inline.{across-in, place-is}
 use borrow.Author.Needs.{needs}
 use Rattle.bitmap.proofs.inline_place.Statement.{statement}
 use Rattle.bitmap.proofs.inline_place.Tie as tie

@@ -1,5 +1,5 @@
 use mathlib.Core.Path.{refl}
-use Rattle.bitmap.proofs.Short.{byte-painted, byte-last, byte-none}
+use Rattle.bitmap.proofs.Strips.{byte-painted, byte-last, byte-none}
 use borrow.Author.Needs.{needs}
 use Rattle.bitmap.proofs.paint_byte.Statement.{statement}
 use Rattle.bitmap.proofs.paint_byte.Tie as tie
@@ -15,9 +15,6 @@ add-if2 c = search needs
 
 sub-pair-mask : tie.Need-sub-pair-mask
 sub-pair-mask c = search needs
-
-add-pair-mask : tie.Need-add-pair-mask
-add-pair-mask c = search needs
 
 pair-mask-requires : tie.Need-pair-mask-requires
 pair-mask-requires c κs = search needs
@@ -69,7 +66,6 @@ paint-byte-spec =
     cell-requires
     add-if2
     sub-pair-mask
-    add-pair-mask
     pair-mask-requires
     word-requires
     mul-columns

@@ -1,4 +1,4 @@
-use Rattle.bitmap.proofs.Bits.{inline-painted, inline-below, inline-none}
+use Rattle.bitmap.proofs.Inline.{inline-painted, inline-below, inline-none}
 use borrow.Author.Needs.{needs}
 use Rattle.bitmap.proofs.paint_inline.Statement.{statement}
 use Rattle.bitmap.proofs.paint_inline.Tie as tie

@@ -1,70 +1,74 @@
-use native.Mathlib.Omega.{arith}
-use Rattle.bitmap.proofs.Bits.{first-below, packed-rest, packed-cut, packed-off}
 use borrow.Author.Needs.{needs}
+use Prim.Native.Nat.{_-_}
+use Rattle.bitmap.proofs.Strips.{StripsPainted, strips-start, strips-step, strips-end, packed-off}
 use Rattle.bitmap.proofs.paint_packed.Statement.{statement}
 use Rattle.bitmap.proofs.paint_packed.Tie as tie
 
-add-least : tie.Need-add-least
+abbrev Inv-loop : tie.InvT-loop
+Inv-loop framebuffer₀ x y w h bits right top bottom left₀ framebuffer left = StripsPainted x right y h w left bits framebuffer₀ framebuffer
+
+abbrev μ-loop : tie.MeasureT-loop
+μ-loop framebuffer₀ x y w h bits right top bottom left₀ framebuffer left = right - left
+
+add-least : tie.Need-add-least Inv-loop μ-loop
 add-least c = search needs
 
-least-requires : tie.Need-least-requires
+least-requires : tie.Need-least-requires Inv-loop μ-loop
 least-requires c κs = search needs
 
-add-bottom : tie.Need-add-bottom
+add-bottom : tie.Need-add-bottom Inv-loop μ-loop
 add-bottom c = search needs
 
-paint-short-requires : tie.Need-paint-short-requires
-paint-short-requires c κs = search needs
+loop-holds : tie.Need-loop-holds Inv-loop μ-loop
+loop-holds c = strips-start (λ i. c .before .before .before .slice-known .given i .fits)
 
-add-if2 : tie.Need-add-if2
-add-if2 c = search needs
+add-least-2 : tie.Need-add-least-2 Inv-loop μ-loop
+add-least-2 c = search needs
 
-add-paint-bits : tie.Need-add-paint-bits
-add-paint-bits c = search needs
+least-requires-2 : tie.Need-least-requires-2 Inv-loop μ-loop
+least-requires-2 c κs = search needs
 
-cast-paint-bits : tie.Need-cast-paint-bits
-cast-paint-bits c = search needs
+sub-paint-strip : tie.Need-sub-paint-strip Inv-loop μ-loop
+sub-paint-strip c = search needs
 
-mul-paint-bits : tie.Need-mul-paint-bits
-mul-paint-bits c = let a = c .before .before .before .before .before .before .before .before .before .before .args in omega (arith, first-below (c .before .before .before .before .paint-short .result) (a .w) (omega (arith, c .before .before .before .before .paint-short .ensures .1)) (search needs))
+cast-paint-strip : tie.Need-cast-paint-strip Inv-loop μ-loop
+cast-paint-strip c = search needs
 
-paint-bits-requires : tie.Need-paint-bits-requires
-paint-bits-requires c κs = let a = c .before .before .before .before .before .before .before .before .before .before .args in (omega (arith, first-below (c .before .before .before .before .paint-short .result) (a .w) (omega (arith, c .before .before .before .before .paint-short .ensures .1)) (search needs)), search needs)
+paint-strip-requires : tie.Need-paint-strip-requires Inv-loop μ-loop
+paint-strip-requires c κs = search needs
 
-same-length : tie.Need-same-length
+loop-less : tie.Need-loop-less Inv-loop μ-loop
+loop-less c = search needs
+
+loop-again : tie.Need-loop-again Inv-loop μ-loop
+loop-again c = strips-step (c .before .before .before .before .before .before .loop .inv) (search needs) (c .before .before .before .before .least2 .ensures) (c .before .before .paint-strip .ensures)
+
+same-length : tie.Need-same-length Inv-loop μ-loop
 same-length c = search needs
 
-returns : tie.Need-returns
-returns c =
-    let a = c .before .before .before .before .before .before .before .before .before .before .before .before .before .args in
-    packed-rest (a .x) (a .y) (a .w) (a .h) _ _ (a .bits .now) (a .framebuffer .now) (c .before .before .before .before .before .before .before .before .before .least .ensures) (omega (arith, c .before .before .before .before .before .before .before .paint-short .ensures .1)) (c .before .before .before .before .before .before .before .paint-short .ensures .0) (c .before .before .paint-bits .ensures)
+returns : tie.Need-returns Inv-loop μ-loop
+returns c = strips-end (c .before .loop .inv) (c .before .before .least .ensures) (search needs)
 
-same-length-2 : tie.Need-same-length-2
-same-length-2 c = search needs
-
-returns-2 : tie.Need-returns-2
-returns-2 c =
-    let a = c .before .before .before .before .before .before .before .before .before .args in
-    packed-cut (a .x) (a .y) (a .w) (a .h) _ 0 (a .bits .now) (a .framebuffer .now) (c .before .before .before .before .before .least .ensures) (omega (arith, c .before .before .before .paint-short .ensures .1)) (c .before .before .before .paint-short .ensures .0)
-
-returns-3 : tie.Need-returns-3
-returns-3 c = let a = c .before .before .before .args in packed-off (a .x) (a .y) (a .w) (a .h) (a .bits .now) (a .framebuffer .now) (λ i. c .before .before .slice-known .given i .fits) (search needs)
+returns-2 : tie.Need-returns-2 Inv-loop μ-loop
+returns-2 c = let a = c .before .before .before .args in packed-off (a .x) (a .y) (a .w) (a .h) (a .bits .now) (a .framebuffer .now) (λ i. c .before .before .slice-known .given i .fits) (search needs)
 
 pub paint-packed-spec : {M : Type 1} → statement M
 paint-packed-spec =
     tie.close
     (tie.spec
+    Inv-loop
+    μ-loop
     add-least
     least-requires
     add-bottom
-    paint-short-requires
-    add-if2
-    add-paint-bits
-    cast-paint-bits
-    mul-paint-bits
-    paint-bits-requires
+    loop-holds
+    add-least-2
+    least-requires-2
+    sub-paint-strip
+    cast-paint-strip
+    paint-strip-requires
+    loop-less
+    loop-again
     same-length
     returns
-    same-length-2
-    returns-2
-    returns-3)
+    returns-2)

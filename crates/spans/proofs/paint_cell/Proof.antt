@@ -1,6 +1,6 @@
 -- `spans::paint_cell` meets its contract.
 -- Assumes nothing.
-use Rattle.spans.proofs.Cells.{ends, part-painted, cell-none, cell-off}
+use Rattle.spans.proofs.Cells.{end-in-byte, part-painted, cell-none, cell-off}
 use borrow.Author.Needs.{needs}
 use Rattle.spans.proofs.paint_cell.Statement.{statement}
 use Rattle.spans.proofs.paint_cell.Tie as tie
@@ -11,7 +11,7 @@ cell-end-requires c κs = search needs
 paint-part-requires : tie.Need-paint-part-requires
 paint-part-requires c κs =
     let a = c .before .before .before .before .before .args in
-    (search needs, ends (a .x) (a .x2) (c .before .before .before .cell-end .result) (c .before .before .before .cell-end .ensures) .byte, search needs)
+    (search needs, end-in-byte (a .x) (a .x2) (c .before .before .before .cell-end .result) (c .before .before .before .cell-end .ensures), search needs)
 
 same-length : tie.Need-same-length
 same-length c = search needs
