@@ -19,7 +19,8 @@ use Rattle.record.specs.Record.{sameBytes, soundRecord}
 use Rattle.record.proofs.Filling.{length-many}
 use Rattle.record.proofs.Whole.{Sized, length-gathering, length-data, length-phase, length-port, length-bars, length-strips, length-sized}
 use Rattle.record.proofs.Standing.{stands-next, stands-drop, stands-front, stands-read, stands-same}
-use Rattle.record.proofs.Testing.{flag-or-clear, flags-both, arguments-are}
+use Rattle.record.proofs.Testing.{flags-both, arguments-are}
+use Rattle.record.proofs.SetUp.{flag-or-clear}
 
 panel-bars : (l : List ℕ) → length (panelOf l .bars) ≡ 16
 unfolding panelOf

@@ -6,6 +6,7 @@ pub mod Same
 pub mod Standing
 pub mod Whole
 pub mod Testing
+pub mod SetUp
 pub mod Deciding
 pub mod Back
 pub mod Bytes

@@ -1,7 +1,7 @@
 -- `are_graphs` meets its contract.
 -- Assumes nothing.
 use borrow.Author.Needs.{needs}
-use Rattle.record.proofs.Testing.{graphs-clear}
+use Rattle.record.proofs.SetUp.{graphs-clear}
 use Rattle.record.proofs.checking.are_graphs.Statement.{statement}
 use Rattle.record.proofs.checking.are_graphs.Tie as tie
 

@@ -1,7 +1,7 @@
 -- `is_bar` meets its contract.
 -- Assumes nothing.
 use borrow.Author.Needs.{needs}
-use Rattle.record.proofs.Testing.{bar-set-up, bar-clear}
+use Rattle.record.proofs.SetUp.{bar-set-up, bar-clear}
 use Rattle.record.proofs.checking.is_bar.Statement.{statement}
 use Rattle.record.proofs.checking.is_bar.Tie as tie
 

@@ -1,7 +1,7 @@
 -- `is_serial` meets its contract.
 -- Assumes nothing.
 use borrow.Author.Needs.{needs}
-use Rattle.record.proofs.Testing.{serial-there, serial-clear}
+use Rattle.record.proofs.SetUp.{serial-there, serial-clear}
 use Rattle.record.proofs.checking.is_serial.Statement.{statement}
 use Rattle.record.proofs.checking.is_serial.Tie as tie
 

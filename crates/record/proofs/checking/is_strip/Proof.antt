@@ -1,7 +1,7 @@
 -- `is_strip` meets its contract.
 -- Assumes nothing.
 use borrow.Author.Needs.{needs}
-use Rattle.record.proofs.Testing.{strip-set-up, strip-clear}
+use Rattle.record.proofs.SetUp.{strip-set-up, strip-clear}
 use Rattle.record.proofs.checking.is_strip.Statement.{statement}
 use Rattle.record.proofs.checking.is_strip.Tie as tie
 
