@@ -1,11 +1,19 @@
 -- The shapes of the built-in font's glyphs, each as one number, and in how many pixels two of them differ.
 -- Assumes nothing.
-use mathlib.Core.Bool.{cond}
-use mathlib.Core.List.{List}
+use mathlib.Core.Bool.{cond, _&&_}
+use mathlib.Core.List.{List, [], _∷_}
 use Prim.Native.Nat.{ℕ, zero, suc, _+_, _-_, _*_, _/_, _%_, _^_}
-use lib.Dec.{eqb}
+use lib.Dec.{eqb, leb}
 use lib.ListN.{getD, drop}
 use Rattle.builtin_font.specs.Table.{table}
+
+-- five bytes of the table from number o on
+abbrev pub fiveFrom : ℕ → List ℕ
+fiveFrom o = getD table o 0 ∷ getD table (o + 1) 0 ∷ getD table (o + 2) 0 ∷ getD table (o + 3) 0 ∷ getD table (o + 4) 0 ∷ []
+
+-- the rows of a character, packed; of one that the font has not, five zeros
+unfoldable pub rowsOf : ℕ → List ℕ
+rowsOf c = cond (leb 32 c && leb c 126) (fiveFrom (289 + 5 * (c - 32))) (0 ∷ 0 ∷ 0 ∷ 0 ∷ 0 ∷ [])
 
 -- the first five bytes, the first highest
 unfoldable pub fiveBytes : List ℕ → ℕ

@@ -1,6 +1,6 @@
 -- The rules of text, each way by itself.
 -- Assumes nothing.
-use mathlib.Core.Path.{_≡_, _∙_, sym}
+use mathlib.Core.Path.{_≡_, _∙_, refl, sym}
 use mathlib.Core.List.{List, []}
 use native.Mathlib.Nat.{mul-le-mul}
 use Prim.Native.Nat.{ℕ, _+_, _-_, _*_, _<_, _≤_}
@@ -21,8 +21,9 @@ use Rattle.rules.specs.World.{world, putText, quietly, refused}
 use Rattle.rules.specs.Fonts.{opened, shut, openedAt, openFont}
 use Rattle.text.specs.declared.Source.{Source}
 use Rattle.text.specs.declared.Source.the-variants.{BuiltIn, Stored, Refused}
+use Rattle.text.specs.Places.{pixelBy, placeBy}
 use Rattle.text.specs.Sources.{openedBy}
-use Rattle.rules.specs.Text.{withFont, atPoint, fontChosen, chooseFont, placeX, placeY, placeIn, setPlace, characterIn, character}
+use Rattle.rules.specs.Text.{withFont, atPoint, fontChosen, chooseFont, placeIn, setPlace, characterIn, character}
 
 -- ---- where the font of a number lies
 
@@ -78,43 +79,45 @@ pub pixel-is : (margin place size space m p z q n : ℕ) → z ≡ size → q �
     → m + n ≡ margin + (place - 1) * (size + space)
 pixel-is margin place size space m p z q n ez eq em ep en = rw (en, ez, eq, em, ep)
 
-module _ (g s : List ℕ) (st : State) (h c r : ℕ) (l : List ℕ) (tall : height g ≡ h) where
-  pub place-no-column : c ≡ 0 → placeIn (world g s st) c r (opened l) ≡ refused 17 []
-  unfolding placeIn
+module _ (g s : List ℕ) (st : State) (h c r v k : ℕ) (tall : height g ≡ h) where
+  pub place-no-column : c ≡ 0 → placeBy (world g s st) c r v k ≡ refused 17 []
+  unfolding placeBy
   place-no-column e = rw (eq-eqb c 0 e)
 
-  pub place-no-row : (c ≡ 0 → ⊥) → r ≡ 0 → placeIn (world g s st) c r (opened l) ≡ refused 17 []
-  unfolding placeIn
+  pub place-no-row : (c ≡ 0 → ⊥) → r ≡ 0 → placeBy (world g s st) c r v k ≡ refused 17 []
+  unfolding placeBy
   place-no-row f e = rw (ne-eqb c 0 f, eq-eqb r 0 e)
 
-  module _ (x y v k : ℕ) (column : c ≡ 0 → ⊥) (row : r ≡ 0 → ⊥) (wide : v ≡ nominalWidth l) (high : k ≡ heightOf l)
-      (at-x : x ≡ st .port .text .left + (c - 1) * (v + st .port .text .«char_space»)) (at-y : y ≡ st .port .text .top + (r - 1) * (k + st .port .text .«line_space»)) where
-    x-is : x ≡ placeX (st .port .text) l c
-    x-is = at-x ∙ rw wide
+  module _ (x y : ℕ) (column : c ≡ 0 → ⊥) (row : r ≡ 0 → ⊥) (at-x : x ≡ pixelBy (st .port .text .left) c v (st .port .text .«char_space»))
+      (at-y : y ≡ pixelBy (st .port .text .top) r k (st .port .text .«line_space»)) where
+    pub place-off-right : width ≤ x → placeBy (world g s st) c r v k ≡ refused 17 []
+    unfolding placeBy
+    place-off-right b = rw (ne-eqb c 0 column, ne-eqb r 0 row, ← at-x, le-leb width x b)
 
-    y-is : y ≡ placeY (st .port .text) l r
-    y-is = at-y ∙ rw high
+    pub place-off-below : x < width → h ≤ y → placeBy (world g s st) c r v k ≡ refused 17 []
+    unfolding placeBy
+    place-off-below b d = rw (ne-eqb c 0 column, ne-eqb r 0 row, ← at-x, lt-leb width x b, tall, ← at-y, le-leb h y d)
 
-    pub place-off-right : width ≤ x → placeIn (world g s st) c r (opened l) ≡ refused 17 []
-    unfolding placeIn
-    place-off-right b = rw (ne-eqb c 0 column, ne-eqb r 0 row, ← x-is, le-leb width x b)
-
-    pub place-off-below : x < width → h ≤ y → placeIn (world g s st) c r (opened l) ≡ refused 17 []
-    unfolding placeIn
-    place-off-below b d = rw (ne-eqb c 0 column, ne-eqb r 0 row, ← x-is, lt-leb width x b, tall, ← y-is, le-leb h y d)
-
-    pub place-done : x < width → y < h → placeIn (world g s st) c r (opened l) ≡ quietly (putText (world g s st) (atPoint (st .port .text) x y))
-    unfolding placeIn
-    place-done b d = rw (ne-eqb c 0 column, ne-eqb r 0 row, ← x-is, lt-leb width x b, tall, ← y-is, lt-leb h y d)
+    pub place-done : x < width → y < h → placeBy (world g s st) c r v k ≡ quietly (putText (world g s st) (atPoint (st .port .text) x y))
+    unfolding placeBy
+    place-done b d = rw (ne-eqb c 0 column, ne-eqb r 0 row, ← at-x, lt-leb width x b, tall, ← at-y, lt-leb h y d)
 
 module _ (g s : List ℕ) (st : State) (h c r : ℕ) (tall : height g ≡ h) where
   pub place-shut : (k : ℕ) → openFont h s (st .port .text .font) ≡ shut k → setPlace (world g s st) c r ≡ refused k []
   unfolding setPlace placeIn
   place-shut k e = rw (tall, e)
 
-  pub place-opened : (l : List ℕ) → openFont h s (st .port .text .font) ≡ opened l → setPlace (world g s st) c r ≡ placeIn (world g s st) c r (opened l)
+  opened-place : (l : List ℕ) → openFont h s (st .port .text .font) ≡ opened l → setPlace (world g s st) c r ≡ placeIn (world g s st) c r (opened l)
   unfolding setPlace
-  place-opened l e = rw (tall, e)
+  opened-place l e = rw (tall, e)
+
+  by-size : (l : List ℕ) → placeIn (world g s st) c r (opened l) ≡ placeBy (world g s st) c r (nominalWidth l) (heightOf l)
+  unfolding placeIn placeBy
+  by-size l = refl
+
+  pub place-opened : (l : List ℕ) (v k : ℕ) → openFont h s (st .port .text .font) ≡ opened l → v ≡ nominalWidth l → k ≡ heightOf l
+      → setPlace (world g s st) c r ≡ placeBy (world g s st) c r v k
+  place-opened l v k e d f = opened-place l e ∙ by-size l ∙ rw (d, f)
 
 -- ---- characters
 

@@ -1,23 +1,33 @@
 -- Where a character goes: the ways of its wrap and of its room, and the character drawn there.
 -- Assumes nothing.
-use mathlib.Core.Path.{_≡_, _∙_, refl, sym}
+use mathlib.Core.Path.{_≡_, _∙_, refl, sym, ap}
 use mathlib.Core.Bool.{Bool, true, false, cond, not, _&&_}
 use mathlib.Core.List.{List, []}
 use native.Mathlib.Omega.{arith}
-use Prim.Native.Nat.{ℕ, _+_, _<_, _≤_}
+use Prim.Native.Nat.{ℕ, zero, suc, _+_, _-_, _*_, _/_, _%_, _<_, _≤_}
 use lib.Dec.{leb}
-use lib.ListN.{drop}
+use lib.ListN.{getD, drop}
+use lib.Seq.{getD-drop}
 use borrow.Author.Tests.{eq-eqb, ne-eqb, le-leb, lt-leb, leb-true}
 use Rattle.file_laws.proofs.Written.{and-both}
-use Rattle.pixels.specs.Framebuffer.{width, height}
-use Rattle.bitmap.specs.Bitmaps.{packedBox}
+use Rattle.pixels.specs.Framebuffer.{bitOf, width, height}
+use Rattle.pixels.specs.Regions.{within, box}
+use Rattle.pixels.proofs.Intervals.{within-true}
+use Rattle.pixels.proofs.Painting.{put-same}
+use Rattle.spans.specs.Bits.{packedBit}
+use Rattle.bitmap.specs.Bitmaps.{packed, packedBox}
 use Rattle.scroll.specs.Scroll.{scrolled}
 use Rattle.opened_font.specs.declared.Glyph.{Glyph}
 use Rattle.opened_font.specs.declared.Glyph.the-variants.{At as GlyphAt, Missing}
 use Rattle.opened_font.specs.Glyphs.{glyphOf}
+use Rattle.opened_font.proofs.Laws.{glyph-before, glyph-behind}
+use Rattle.builtin_font.specs.Table.{table}
+use Rattle.builtin_font.specs.Shapes.{fiveFrom, rowsOf}
+use Rattle.builtin_font.proofs.Rules.{first-is, last-is, glyph-of}
+use Rattle.builtin_font.proofs.Characters.{rows-are}
 use Rattle.state.specs.declared.State.{State}
 use Rattle.state.specs.declared.Text.{Text}
-use Rattle.rules.specs.World.{world, putText, quietly, refused}
+use Rattle.rules.specs.World.{World, world, port, withFramebuffer, putText, quietly, refused}
 use Rattle.rules.specs.Fonts.{opened}
 use Rattle.rules.specs.Text.{atPoint, Place as Ruled, place, nowhere, wrapped, fitted, movedUp, glyphAt, glyphOn, characterIn}
 use Rattle.text.specs.declared.Place.{Place}
@@ -109,18 +119,69 @@ up-some n g g' a e = e ∙ rw (ne-eqb n 0 (λ z. absurd (omega arith)))
 pub up-none : (n : ℕ) (g : List ℕ) → n ≤ 0 → g ≡ movedUp n g
 up-none n g a = rw (eq-eqb n 0 (omega arith))
 
-module _ (g s : List ℕ) (st : State) (h b : ℕ) (l : List ℕ) (q : Glyph) (tall : height g ≡ h) (glyph : q ≡ glyphOf l b) where
-  pub draw-28 : q ≡ Missing → characterIn (world g s st) b (opened l) ≡ refused 28 []
+module _ (g s : List ℕ) (st : State) (h v f : ℕ) (bits : List ℕ) (c : Place) (tall : height g ≡ h) (found : c ≡ placeOf (fitted h v f (wrapped (st .port .text) v f))) where
+  pub glyph-29 : c ≡ Nowhere → glyphOn (world g s st) bits (GlyphAt 0 v f) ≡ refused 29 []
+  unfolding glyphOn glyphAt
+  glyph-29 e = rw (tall, nowhere-is (fitted h v f (wrapped (st .port .text) v f)) (sym found ∙ e))
+
+  pub glyph-done : (x y u a d : ℕ) (g' g'' : List ℕ) → a ≡ v → d ≡ st .port .text .«char_space» → c ≡ At x y u → g' ≡ movedUp u g → g'' ≡ packedBox x y v f bits g'
+      → glyphOn (world g s st) bits (GlyphAt 0 v f) ≡ quietly (putText (world g'' s st) (atPoint (st .port .text) (x + a + d) y))
+  unfolding glyphOn glyphAt
+  glyph-done x y u a d g' g'' ea ed e up paint =
+      rw (tall, at-is (fitted h v f (wrapped (st .port .text) v f)) x y u (sym found ∙ e), paint, up, ea, ed)
+
+-- ---- of a font's file
+
+glyph-moved : (w : World) (l : List ℕ) (o v f : ℕ) (p : Ruled) → glyphAt w l o v f p ≡ glyphAt w (drop o l) 0 v f p
+unfolding glyphAt
+glyph-moved w l o v f (place x y u) = refl
+glyph-moved w l o v f nowhere = refl
+
+module _ (w : World) (b : ℕ) (l : List ℕ) (q : Glyph) (glyph : q ≡ glyphOf l b) where
+  pub draw-28 : q ≡ Missing → characterIn w b (opened l) ≡ refused 28 []
   unfolding characterIn glyphOn
   draw-28 e = rw (← glyph, e)
 
-  module _ (o v f : ℕ) (c : Place) (there : q ≡ GlyphAt o v f) (found : c ≡ placeOf (fitted h v f (wrapped (st .port .text) v f))) where
-    pub draw-29 : c ≡ Nowhere → characterIn (world g s st) b (opened l) ≡ refused 29 []
-    unfolding characterIn glyphOn glyphAt
-    draw-29 e = rw (← glyph, there, tall, nowhere-is (fitted h v f (wrapped (st .port .text) v f)) (sym found ∙ e))
+  pub draw-there : (o v f : ℕ) (bits : List ℕ) → q ≡ GlyphAt o v f → bits ≡ drop o l → characterIn w b (opened l) ≡ glyphOn w bits (GlyphAt 0 v f)
+  unfolding characterIn glyphOn
+  draw-there o v f bits e d = rw (← glyph, e, d) (glyph-moved w l o v f _)
 
-    pub draw-done : (x y u a d : ℕ) (g' g'' bits : List ℕ) → a ≡ v → d ≡ st .port .text .«char_space» → c ≡ At x y u → g' ≡ movedUp u g → bits ≡ drop o l → g'' ≡ packedBox x y v f bits g'
-        → characterIn (world g s st) b (opened l) ≡ quietly (putText (world g'' s st) (atPoint (st .port .text) (x + a + d) y))
-    unfolding characterIn glyphOn glyphAt
-    draw-done x y u a d g' g'' bits ea ed e up cut paint =
-        rw (← glyph, there, tall, at-is (fitted h v f (wrapped (st .port .text) v f)) x y u (sym found ∙ e), paint, up, cut, ea, ed)
+-- ---- of the built-in font, from its five bytes
+
+five-byte : (o j : ℕ) → j < 5 → getD (drop o table) j 0 ≡ getD (fiveFrom o) j 0
+five-byte o zero h = let z : o + 0 ≡ o = omega arith in getD-drop o table 0 0 ∙ ap (λ (i : ℕ). getD table i 0) z
+five-byte o (suc zero) h = getD-drop o table 1 0
+five-byte o (suc (suc zero)) h = getD-drop o table 2 0
+five-byte o (suc (suc (suc zero))) h = getD-drop o table 3 0
+five-byte o (suc (suc (suc (suc zero)))) h = getD-drop o table 4 0
+five-byte o (suc (suc (suc (suc (suc j))))) h = absurd (omega arith)
+
+five-bit : (o k : ℕ) → k < 40 → packedBit (drop o table) k ≡ packedBit (fiveFrom o) k
+unfolding packedBit
+five-bit o k h = ap (λ (b : ℕ). bitOf b (k % 8)) (five-byte o (k / 8) (omega arith))
+
+five-picture : (o x y : ℕ) (g : List ℕ) → packedBox x y 5 7 (drop o table) g ≡ packedBox x y 5 7 (fiveFrom o) g
+unfolding packed
+five-picture o x y g =
+    put-same (box x (x + 5) y (y + 7)) (box x (x + 5) y (y + 7)) (packed x y 5 (drop o table)) (packed x y 5 (fiveFrom o)) g (λ u v on. refl)
+    (λ u v on e. let q = and-both (within x (x + 5) u) (within y (y + 7) v) e in
+    let a = within-true x (x + 5) u (q .0) in
+    let b = within-true y (y + 7) v (q .1) in
+    five-bit o ((v - y) * 5 + (u - x)) (omega (arith, a .0, a .1, b .0, b .1)))
+
+five-glyph : (w : World) (o : ℕ) (p : Ruled) → glyphAt w table o 5 7 p ≡ glyphAt w (fiveFrom o) 0 5 7 p
+unfolding glyphAt
+five-glyph w o (place x y u) =
+    ap (λ (g : List ℕ). quietly (putText (withFramebuffer w g) (atPoint (port w .text) (x + 5 + port w .text .«char_space») y))) (five-picture o x y (movedUp u (w .framebuffer)))
+five-glyph w o nowhere = refl
+
+module _ (w : World) (b : ℕ) where
+  pub built-in-before : b < 32 → characterIn w b (opened table) ≡ refused 28 []
+  built-in-before h = draw-28 w b table (glyphOf table b) refl (glyph-before table b (omega (arith, first-is)))
+
+  pub built-in-behind : 126 < b → characterIn w b (opened table) ≡ refused 28 []
+  built-in-behind h = draw-28 w b table (glyphOf table b) refl (glyph-behind table b (omega (arith, last-is)))
+
+  pub built-in-there : (l : List ℕ) → 32 ≤ b → b ≤ 126 → l ≡ rowsOf b → characterIn w b (opened table) ≡ glyphOn w l (GlyphAt 0 5 7)
+  unfolding characterIn glyphOn
+  built-in-there l h k e = rw (glyph-of b h k, e, rows-are b h k) (five-glyph w (289 + 5 * (b - 32)) _)

@@ -9,7 +9,6 @@ use directory::part;
 use directory::rest;
 use fonts::Check;
 use fonts::check_font;
-use fonts::height;
 use fonts::nominal_width;
 use opened_font::Glyph;
 use opened_font::glyph_of;
@@ -29,10 +28,12 @@ ghost use mathlib.Core.Path.{_≡_};
 ghost use mathlib.Core.List.{[], _∷_};
 ghost use Prim.Native.Nat.{_+_, _*_, _-_, _<_, _≤_};
 ghost use Rattle.rules.specs.World.{putText, quietly};
-ghost use Rattle.rules.specs.Text.{atPoint, home, withWrap, withScroll, withMetrics, chooseFont, placeIn, setPlace, wrapped, fitted, movedUp, characterIn, character};
+ghost use Rattle.opened_font.specs.declared.Glyph.the-variants.{At};
+ghost use Rattle.builtin_font.specs.Table.{table};
+ghost use Rattle.rules.specs.Text.{atPoint, home, withWrap, withScroll, withMetrics, chooseFont, setPlace, wrapped, fitted, movedUp, glyphOn, characterIn, character};
 ghost use Rattle.rules.specs.Fonts.{opened, openFont};
 ghost use Rattle.outcome.specs.Contract.{unlent, lent, untold, told, Obeys};
-ghost use Rattle.text.specs.Places.{placeOf};
+ghost use Rattle.text.specs.Places.{placeBy, placeOf};
 ghost use Rattle.text.specs.Sources.{openedBy};
 
 // Where a character goes, and by how many rows the framebuffer moves up first.
@@ -180,9 +181,9 @@ fn pixel_of(margin: u8, place: u8, size: u8, space: u8) -> u32
     long(margin) + product(long(place) - 1, step)
 }
 
-// The text point by column and row of a font.
-fn place_in(port: Port, height: u8, file: &[u8], column: u8, row: u8) -> Outcome
-    ensures { λ r. ⌜ Obeys (told height) (λ w. placeIn w column row (opened (now (file .entry)))) port unlent unlent unlent r ⌝ }
+// The text point by column and row of a font of this nominal width and height.
+fn place_by(port: Port, height: u8, nominal: u8, tall: u8, column: u8, row: u8) -> Outcome
+    ensures { λ r. ⌜ Obeys (told height) (λ w. placeBy w column row nominal tall) port unlent unlent unlent r ⌝ }
 {
     if column == 0 {
         return refused(port, OUT_OF_BOUNDS);
@@ -191,8 +192,8 @@ fn place_in(port: Port, height: u8, file: &[u8], column: u8, row: u8) -> Outcome
         return refused(port, OUT_OF_BOUNDS);
     }
     let mut text = port.text;
-    let x = pixel_of(text.left, column, nominal_width(file), text.char_space);
-    let y = pixel_of(text.top, row, fonts::height(file), text.line_space);
+    let x = pixel_of(text.left, column, nominal, text.char_space);
+    let y = pixel_of(text.top, row, tall, text.line_space);
     if x >= wide(WIDTH) {
         return refused(port, OUT_OF_BOUNDS);
     }
@@ -210,11 +211,25 @@ pub fn set_place(store: &[u8], port: Port, height: u8, column: u8, row: u8) -> O
     let source = find_font(store, height, port.text.font);
     match source {
         Source::BuiltIn => {
-            let table = builtin_font::file();
-            place_in(port, height, &table, column, row)
+            place_by(
+                port,
+                height,
+                builtin_font::WIDTH,
+                builtin_font::HEIGHT,
+                column,
+                row,
+            )
         }
         Source::Stored { start, size } => {
-            place_in(port, height, part(store, start, size), column, row)
+            let file = part(store, start, size);
+            place_by(
+                port,
+                height,
+                nominal_width(file),
+                fonts::height(file),
+                column,
+                row,
+            )
         }
         Source::Refused { refusal } => refused(port, refusal),
     }
@@ -283,7 +298,30 @@ fn move_up(framebuffer: &mut [u8], rows: u16)
     }
 }
 
-// A character of a font, which is opened for it.
+// A glyph of this size from its packed rows.
+fn draw_glyph(
+    framebuffer: &mut [u8],
+    port: Port,
+    height: u8,
+    width: u8,
+    tall: u8,
+    bits: &[u8],
+) -> Outcome
+    ensures { λ r. ⌜ Obeys (told height) (λ w. glyphOn w (now (bits .entry)) (At 0 width tall)) port (lent (now (framebuffer .entry)) (now (framebuffer .exit))) unlent unlent r ⌝ }
+{
+    let mut text = port.text;
+    let place = place_for(text, width, tall, height);
+    let Place::At { x, y, up } = place else {
+        return refused(port, GLYPH_DOES_NOT_FIT);
+    };
+    move_up(framebuffer, up);
+    paint_packed(framebuffer, x, y as u8, width, tall, bits);
+    text.x = x + word(width) + word(text.char_space);
+    text.y = y as u8;
+    done(put_text(port, text))
+}
+
+// A character of a font's file, which is opened for it.
 fn draw_in(framebuffer: &mut [u8], port: Port, height: u8, file: &[u8], byte: u8) -> Outcome
     ensures { λ r. ⌜ Obeys (told height) (λ w. characterIn w byte (opened (now (file .entry)))) port (lent (now (framebuffer .entry)) (now (framebuffer .exit))) unlent unlent r ⌝ }
 {
@@ -296,17 +334,28 @@ fn draw_in(framebuffer: &mut [u8], port: Port, height: u8, file: &[u8], byte: u8
     else {
         return refused(port, NO_GLYPH);
     };
-    let mut text = port.text;
-    let place = place_for(text, width, tall, height);
-    let Place::At { x, y, up } = place else {
-        return refused(port, GLYPH_DOES_NOT_FIT);
-    };
-    move_up(framebuffer, up);
-    let bits = rest(file, offset);
-    paint_packed(framebuffer, x, y as u8, width, tall, bits);
-    text.x = x + word(width) + word(text.char_space);
-    text.y = y as u8;
-    done(put_text(port, text))
+    draw_glyph(framebuffer, port, height, width, tall, rest(file, offset))
+}
+
+// A character of the built-in font.
+fn draw_built_in(framebuffer: &mut [u8], port: Port, height: u8, byte: u8) -> Outcome
+    ensures { λ r. ⌜ Obeys (told height) (λ w. characterIn w byte (opened table)) port (lent (now (framebuffer .entry)) (now (framebuffer .exit))) unlent unlent r ⌝ }
+{
+    if byte < builtin_font::FIRST {
+        return refused(port, NO_GLYPH);
+    }
+    if byte > builtin_font::LAST {
+        return refused(port, NO_GLYPH);
+    }
+    let rows = builtin_font::rows(byte);
+    draw_glyph(
+        framebuffer,
+        port,
+        height,
+        builtin_font::WIDTH,
+        builtin_font::HEIGHT,
+        &rows,
+    )
 }
 
 // Any byte but 254 outside a command.
@@ -321,10 +370,7 @@ pub fn draw_character(
 {
     let source = find_font(store, height, port.text.font);
     match source {
-        Source::BuiltIn => {
-            let table = builtin_font::file();
-            draw_in(framebuffer, port, height, &table, byte)
-        }
+        Source::BuiltIn => draw_built_in(framebuffer, port, height, byte),
         Source::Stored { start, size } => {
             draw_in(framebuffer, port, height, part(store, start, size), byte)
         }

@@ -11,14 +11,8 @@ find-font-requires c κs = search needs
 enum-told : tie.Need-enum-told
 enum-told c = search needs
 
-file-requires : tie.Need-file-requires
-file-requires c κs = search needs
-
-slice-aggregate-draw-in : tie.Need-slice-aggregate-draw-in
-slice-aggregate-draw-in c = search needs
-
-draw-in-requires : tie.Need-draw-in-requires
-draw-in-requires c κs = search needs
+draw-built-in-requires : tie.Need-draw-built-in-requires
+draw-built-in-requires c κs = search needs
 
 enum-known-source : tie.Need-enum-known-source
 enum-known-source c = search needs
@@ -26,8 +20,8 @@ enum-known-source c = search needs
 part-requires : tie.Need-part-requires
 part-requires c κs = search needs
 
-draw-in-requires-2 : tie.Need-draw-in-requires-2
-draw-in-requires-2 c κs = search needs
+draw-in-requires : tie.Need-draw-in-requires
+draw-in-requires c κs = search needs
 
 enum-known-source-2 : tie.Need-enum-known-source-2
 enum-known-source-2 c = search needs
@@ -39,13 +33,13 @@ same-length : tie.Need-same-length
 same-length c = search needs
 
 returns : tie.Need-returns
-returns c = obeys-as (c .before .before .draw-in .ensures) (λ g h. h) (λ g s p. refl) (λ g s p t. character-opened _ _ _ _ _ t _ (from-built-in _ _ _ _ (c .before .before .before .before .before .before .before .before .find-font .ensures) _ (search needs) (c .before .before .before .before .before .file .ensures)))
+returns c = obeys-as (c .before .before .draw-built-in .ensures) (λ g h. h) (λ g s p. refl) (λ g s p t. character-opened _ _ _ _ _ t _ (from-built-in _ _ _ _ (c .before .before .before .before .before .before .find-font .ensures) _ (search needs) refl))
 
 same-length-2 : tie.Need-same-length-2
 same-length-2 c = search needs
 
 returns-2 : tie.Need-returns-2
-returns-2 c = obeys-as (c .before .before .draw-in2 .ensures) (λ g h. h) (λ g s p. refl) (λ g s p t. character-opened _ _ _ _ _ t _ (from-stored _ _ _ _ (c .before .before .before .before .before .before .before .before .find-font .ensures) _ _ _ (c .before .before .before .before .before .before .source .given .1) (c .before .before .before .part .ensures)))
+returns-2 c = obeys-as (c .before .before .draw-in .ensures) (λ g h. h) (λ g s p. refl) (λ g s p t. character-opened _ _ _ _ _ t _ (from-stored _ _ _ _ (c .before .before .before .before .before .before .before .before .find-font .ensures) _ _ _ (c .before .before .before .before .before .before .source .given .1) (c .before .before .before .part .ensures)))
 
 returns-3 : tie.Need-returns-3
 returns-3 c = obeys-refused _ (c .refused .ensures) (λ g s p. refl) (λ g s p t. character-shut _ _ _ _ _ t _ (from-refused _ _ _ _ (c .before .before .before .before .find-font .ensures) _ (c .before .before .source2 .given .1)))
@@ -56,12 +50,10 @@ draw-character-spec =
     (tie.spec
     find-font-requires
     enum-told
-    file-requires
-    slice-aggregate-draw-in
-    draw-in-requires
+    draw-built-in-requires
     enum-known-source
     part-requires
-    draw-in-requires-2
+    draw-in-requires
     enum-known-source-2
     refused-requires
     same-length

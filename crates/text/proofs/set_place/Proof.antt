@@ -1,4 +1,5 @@
-use mathlib.Core.Path.{refl}
+use mathlib.Core.Path.{refl, sym}
+use Rattle.builtin_font.proofs.Rules.{width-is, height-is}
 use Rattle.text.proofs.Laws.{from-built-in, from-stored, from-refused, place-shut, place-opened}
 use Rattle.outcome.proofs.Laws.{obeys-refused, obeys-as}
 use borrow.Author.Needs.{needs}
@@ -11,14 +12,8 @@ find-font-requires c κs = search needs
 enum-told : tie.Need-enum-told
 enum-told c = search needs
 
-file-requires : tie.Need-file-requires
-file-requires c κs = search needs
-
-slice-aggregate-place-in : tie.Need-slice-aggregate-place-in
-slice-aggregate-place-in c = search needs
-
-place-in-requires : tie.Need-place-in-requires
-place-in-requires c κs = search needs
+place-by-requires : tie.Need-place-by-requires
+place-by-requires c κs = search needs
 
 enum-known-source : tie.Need-enum-known-source
 enum-known-source c = search needs
@@ -26,8 +21,14 @@ enum-known-source c = search needs
 part-requires : tie.Need-part-requires
 part-requires c κs = search needs
 
-place-in-requires-2 : tie.Need-place-in-requires-2
-place-in-requires-2 c κs = search needs
+nominal-width-requires : tie.Need-nominal-width-requires
+nominal-width-requires c κs = search needs
+
+height-requires : tie.Need-height-requires
+height-requires c κs = search needs
+
+place-by-requires-2 : tie.Need-place-by-requires-2
+place-by-requires-2 c κs = search needs
 
 enum-known-source-2 : tie.Need-enum-known-source-2
 enum-known-source-2 c = search needs
@@ -36,10 +37,10 @@ refused-requires : tie.Need-refused-requires
 refused-requires c κs = search needs
 
 returns : tie.Need-returns
-returns c = obeys-as (c .place-in .ensures) (λ g h. h) (λ g s p. refl) (λ g s p t. place-opened _ _ _ _ _ _ t _ (from-built-in _ _ _ _ (c .before .before .before .before .before .find-font .ensures) _ (search needs) (c .before .before .file .ensures)))
+returns c = obeys-as (c .place-by .ensures) (λ g h. h) (λ g s p. refl) (λ g s p t. place-opened _ _ _ _ _ _ t _ _ _ (from-built-in _ _ _ _ (c .before .before .before .find-font .ensures) _ (search needs) refl) (sym width-is) (sym height-is))
 
 returns-2 : tie.Need-returns-2
-returns-2 c = obeys-as (c .place-in2 .ensures) (λ g h. h) (λ g s p. refl) (λ g s p t. place-opened _ _ _ _ _ _ t _ (from-stored _ _ _ _ (c .before .before .before .before .before .find-font .ensures) _ _ _ (c .before .before .before .source .given .1) (c .before .part .ensures)))
+returns-2 c = obeys-as (c .place-by2 .ensures) (λ g h. h) (λ g s p. refl) (λ g s p t. place-opened _ _ _ _ _ _ t _ _ _ (from-stored _ _ _ _ (c .before .before .before .before .before .before .before .find-font .ensures) _ _ _ (c .before .before .before .before .before .source .given .1) (c .before .before .before .part .ensures)) (c .before .before .nominal-width .ensures) (c .before .height .ensures))
 
 returns-3 : tie.Need-returns-3
 returns-3 c = obeys-refused _ (c .refused .ensures) (λ g s p. refl) (λ g s p t. place-shut _ _ _ _ _ _ t _ (from-refused _ _ _ _ (c .before .before .before .before .find-font .ensures) _ (c .before .before .source2 .given .1)))
@@ -50,12 +51,12 @@ set-place-spec =
     (tie.spec
     find-font-requires
     enum-told
-    file-requires
-    slice-aggregate-place-in
-    place-in-requires
+    place-by-requires
     enum-known-source
     part-requires
-    place-in-requires-2
+    nominal-width-requires
+    height-requires
+    place-by-requires-2
     enum-known-source-2
     refused-requires
     returns

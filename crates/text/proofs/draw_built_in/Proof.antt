@@ -1,0 +1,47 @@
+use mathlib.Core.Path.{refl}
+use Rattle.text.proofs.Places.{built-in-before, built-in-behind, built-in-there}
+use Rattle.outcome.proofs.Laws.{obeys-refused, obeys-as}
+use borrow.Author.Needs.{needs}
+use Rattle.text.proofs.draw_built_in.Statement.{statement}
+use Rattle.text.proofs.draw_built_in.Tie as tie
+
+refused-requires : tie.Need-refused-requires
+refused-requires c κs = search needs
+
+returns : tie.Need-returns
+returns c = obeys-refused 28 (c .refused .ensures) (λ g s p. refl) (λ g s p t. built-in-before _ _ (search needs))
+
+refused-requires-2 : tie.Need-refused-requires-2
+refused-requires-2 c κs = search needs
+
+returns-2 : tie.Need-returns-2
+returns-2 c = obeys-refused 28 (c .refused2 .ensures) (λ g s p. refl) (λ g s p t. built-in-behind _ _ (search needs))
+
+rows-requires : tie.Need-rows-requires
+rows-requires c κs = search needs
+
+slice-aggregate-draw-glyph : tie.Need-slice-aggregate-draw-glyph
+slice-aggregate-draw-glyph c = search needs
+
+draw-glyph-requires : tie.Need-draw-glyph-requires
+draw-glyph-requires c κs = search needs
+
+same-length : tie.Need-same-length
+same-length c = search needs
+
+returns-3 : tie.Need-returns-3
+returns-3 c = obeys-as (c .before .before .draw-glyph .ensures) (λ g h. h) (λ g s p. refl) (λ g s p t. built-in-there _ _ _ (search needs) (search needs) (c .before .before .before .before .before .rows .ensures))
+
+pub draw-built-in-spec : {M : Type 1} → statement M
+draw-built-in-spec =
+    tie.close
+    (tie.spec
+    refused-requires
+    returns
+    refused-requires-2
+    returns-2
+    rows-requires
+    slice-aggregate-draw-glyph
+    draw-glyph-requires
+    same-length
+    returns-3)
