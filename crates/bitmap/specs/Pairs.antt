@@ -4,7 +4,7 @@
 use mathlib.Core.Path.{_≡_}
 use mathlib.Core.List.{List}
 use Prim.Native.Nat.{ℕ, _+_, _-_, _*_, _/_, _%_, _^_, _≤_}
-use lib.ListN.{getD}
+use lib.ListN.{length, getD}
 use Rattle.pixels.specs.Framebuffer.{Picture, cell, put}
 use Rattle.pixels.specs.Regions.{box}
 use Rattle.canvas.specs.Canvas.{masked}
@@ -35,10 +35,10 @@ putPair i m b g = put (masked (i + 1) (m / 256)) (cellBits (b / 256)) (put (mask
 unfoldable pub packedFrom : ℕ → ℕ → ℕ → ℕ → List ℕ → Picture
 packedFrom k x y w bits u v = packedBit bits (k + (v - y) * w + (u - x))
 
--- of rows y1 up to y2 those painted that lie above a row whose second byte is number `next`
-pub record RowsReached (x1 x2 y1 y2 w first next : ℕ) (bits g₀ g : List ℕ) : Type 0 where
+-- of the first n rows those painted that lie above a row whose second byte is number `next`
+pub record RowsReached (x1 x2 n w first next : ℕ) (bits g₀ g : List ℕ) : Type 0 where
   pub row : ℕ
   pub at-byte : next ≡ cell x1 row + 1
-  pub low : y1 ≤ row
-  pub high : row ≤ y2
-  pub shows : g ≡ put (box x1 x2 y1 row) (packedFrom first x1 y1 w bits) g₀
+  pub high : row ≤ n
+  pub long : length g ≡ length g₀
+  pub shows : g ≡ put (box x1 x2 0 row) (packedFrom first x1 0 w bits) g₀

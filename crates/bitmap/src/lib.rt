@@ -7,14 +7,14 @@ use canvas::least;
 use spans::paint_cell;
 use spans::window;
 ghost use mathlib.Core.Path.{_≡_};
-ghost use Prim.Native.Nat.{_+_, _<_, _≤_, min};
+ghost use Prim.Native.Nat.{_+_, _*_, _<_, _≤_, min};
 ghost use lib.ListN.{length};
 ghost use Rattle.pixels.specs.Framebuffer.{put, width};
 ghost use Rattle.pixels.specs.Regions.{span, box};
 ghost use Rattle.spans.specs.Bits.{bitsFrom};
 ghost use Rattle.bitmap.specs.Pairs.{pairOf, swapped, columnMask, putPair, BlendedPair, RowsReached, packedFrom};
 ghost use Rattle.bitmap.specs.Inline.{PlaceIs};
-ghost use Rattle.bitmap.specs.Bitmaps.{packedBox, inlineByte};
+ghost use Rattle.bitmap.specs.Bitmaps.{packed, packedBox, inlineByte};
 
 fn word(x: u8) -> u16
     ensures { λ r. ⌜ (r ≡ x) × (r < 256) ⌝ }
@@ -63,21 +63,103 @@ fn paint_pair(framebuffer: &mut [u8], at: usize, mask: u16, columns: u16)
 }
 
 // Columns x1 up to, and not with, x2 of row y, at most eight of them, from the highest bit of a byte on.
-fn paint_byte(framebuffer: &mut [u8], x1: u16, x2: u16, y: u16, byte: u8)
+fn paint_byte(rows: &mut [u8], x1: u16, x2: u16, y: u16, byte: u8)
     requires { ⌜ (x2 ≤ x1 + 8) × (x2 ≤ 256) ⌝ }
-    ensures { λ _. ⌜ now (framebuffer .exit) ≡ put (span x1 x2 y) (bitsFrom x1 byte) (now (framebuffer .entry)) ⌝ }
+    ensures { λ _. ⌜ now (rows .exit) ≡ put (span x1 x2 y) (bitsFrom x1 byte) (now (rows .entry)) ⌝ }
 {
     let right = least(x2, WIDTH);
     if x1 < right {
         let at = cell(x1, y);
-        if at + 1 < framebuffer.len() {
+        if at + 1 < rows.len() {
             let start = x1 % 8;
             let mask = pair_mask(start, right - x1);
             let columns = 256 * word(byte);
-            paint_pair(framebuffer, at, mask, columns >> start);
+            paint_pair(rows, at, mask, columns >> start);
         } else {
-            paint_cell(framebuffer, x1, right, y, byte);
+            paint_cell(rows, x1, right, y, byte);
         }
+    }
+}
+
+// Columns x1 up to, and not with, x2, at most eight of them, of the first n rows, which are those that are lent: as many rows as have two
+// bytes there and begin in two bytes of the bits. The answer is the second byte of the row behind them.
+fn paint_pairs(
+    rows: &mut [u8],
+    x1: u16,
+    x2: u16,
+    n: usize,
+    w: u8,
+    first: usize,
+    bits: &[u8],
+) -> usize
+    requires { ⌜ (x1 < x2) × (x2 ≤ x1 + 8) × (x2 ≤ width) × (length (now rows) ≤ 30 * n) × (n < 256) × (first < 256) ⌝ }
+    ensures { λ r. ⌜ RowsReached x1 x2 n w first r (now (bits .entry)) (now (rows .entry)) (now (rows .exit)) ⌝ }
+{
+    let mut next = (x1 / 8) as usize + 1;
+    if bits.len() == 0 {
+        return next;
+    }
+    let last = bits.len() - 1;
+    let start = x1 % 8;
+    let mask = pair_mask(start, x2 - x1);
+    let mut k = first;
+    while next < rows.len() {
+        if last <= k / 8 {
+            return next;
+        }
+        let columns = swapped(pair_at(bits, k / 8)) << (k % 8);
+        paint_pair(rows, next - 1, mask, columns >> start);
+        next += STRIDE;
+        k += w as usize;
+    }
+    next
+}
+
+// The same columns of rows y1 up to, and not with, n, each looked at by itself.
+fn paint_rows(
+    rows: &mut [u8],
+    x1: u16,
+    x2: u16,
+    y1: usize,
+    n: usize,
+    w: u8,
+    first: usize,
+    bits: &[u8],
+)
+    requires { ⌜ (x2 ≤ x1 + 8) × (x2 ≤ width) × (y1 ≤ n) × (n < 256) × (first < 1000000) ⌝ }
+    ensures { λ _. ⌜ now (rows .exit) ≡ put (box x1 x2 y1 n) (packedFrom first x1 y1 w (now (bits .entry))) (now (rows .entry)) ⌝ }
+{
+    let mut y = y1;
+    let mut k = first;
+    while y < n {
+        paint_byte(rows, x1, x2, y as u16, window(bits, k));
+        y += 1;
+        k += w as usize;
+    }
+}
+
+// All of the n rows: by pairs as far as that goes.
+fn paint_strip(rows: &mut [u8], x1: u16, x2: u16, n: usize, w: u8, first: usize, bits: &[u8])
+    requires { ⌜ (x1 < x2) × (x2 ≤ x1 + 8) × (x2 ≤ width) × (length (now rows) ≤ 30 * n) × (n < 256) × (first < 256) ⌝ }
+    ensures { λ _. ⌜ now (rows .exit) ≡ put (box x1 x2 0 n) (packedFrom first x1 0 w (now (bits .entry))) (now (rows .entry)) ⌝ }
+{
+    let next = paint_pairs(rows, x1, x2, n, w, first, bits);
+    if next <= rows.len() {
+        let y = (next - 1) / STRIDE;
+        paint_rows(rows, x1, x2, y, n, w, first + y * (w as usize), bits);
+    }
+}
+
+// Columns x up to, and not with, `right` of the first n rows, which are those that are lent, by strips of eight columns.
+fn paint_strips(rows: &mut [u8], x: u16, right: u16, n: usize, w: u8, bits: &[u8])
+    requires { ⌜ (right ≤ width) × (length (now rows) ≤ 30 * n) × (n < 256) ⌝ }
+    ensures { λ _. ⌜ now (rows .exit) ≡ put (box x right 0 n) (packed x 0 w (now (bits .entry))) (now (rows .entry)) ⌝ }
+{
+    let mut left = x;
+    while left < right {
+        let end = least(left + 8, right);
+        paint_strip(rows, left, end, n, w, (left - x) as usize, bits);
+        left = end;
     }
 }
 
@@ -87,122 +169,18 @@ fn lesser(a: usize, b: usize) -> usize
     if a < b { a } else { b }
 }
 
-// Columns x1 up to, and not with, x2, at most eight of them, of rows from y1 on, as many as lie in two bytes of the framebuffer above
-// row y2 and begin in two bytes of the bits. The answer is the second byte of the row behind them.
-fn paint_pairs(
-    framebuffer: &mut [u8],
-    x1: u16,
-    x2: u16,
-    y1: usize,
-    y2: usize,
-    w: u8,
-    first: usize,
-    bits: &[u8],
-) -> usize
-    requires { ⌜ (x1 < x2) × (x2 ≤ x1 + 8) × (x2 ≤ width) × (y1 ≤ y2) × (y2 < 1024) × (first < 256) ⌝ }
-    ensures { λ r. ⌜ RowsReached x1 x2 y1 y2 w first r (now (bits .entry)) (now (framebuffer .entry)) (now (framebuffer .exit)) ⌝ }
-{
-    let mut next = STRIDE * y1 + (x1 / 8) as usize + 1;
-    if bits.len() == 0 {
-        return next;
-    }
-    let last = bits.len() - 1;
-    let end = lesser(STRIDE * y2, framebuffer.len());
-    let start = x1 % 8;
-    let mask = pair_mask(start, x2 - x1);
-    let mut k = first;
-    while next < end {
-        if last <= k / 8 {
-            return next;
-        }
-        let columns = swapped(pair_at(bits, k / 8)) << (k % 8);
-        paint_pair(framebuffer, next - 1, mask, columns >> start);
-        next += STRIDE;
-        k += w as usize;
-    }
-    next
-}
-
-// The same columns of rows y1 up to, and not with, y2, each looked at by itself.
-fn paint_rows(
-    framebuffer: &mut [u8],
-    x1: u16,
-    x2: u16,
-    y1: usize,
-    y2: usize,
-    w: u8,
-    first: usize,
-    bits: &[u8],
-)
-    requires { ⌜ (x2 ≤ x1 + 8) × (x2 ≤ width) × (y1 ≤ y2) × (y2 < 1024) × (first < 1000000) ⌝ }
-    ensures { λ _. ⌜ now (framebuffer .exit) ≡ put (box x1 x2 y1 y2) (packedFrom first x1 y1 w (now (bits .entry))) (now (framebuffer .entry)) ⌝ }
-{
-    let mut y = y1;
-    let mut k = first;
-    while y < y2 {
-        let row = y as u16;
-        if framebuffer.len() <= cell(x1, row) {
-            return;
-        }
-        paint_byte(framebuffer, x1, x2, row, window(bits, k));
-        y += 1;
-        k += w as usize;
-    }
-}
-
-// All of these rows: by pairs as far as that goes.
-fn paint_strip(
-    framebuffer: &mut [u8],
-    x1: u16,
-    x2: u16,
-    y1: usize,
-    y2: usize,
-    w: u8,
-    first: usize,
-    bits: &[u8],
-)
-    requires { ⌜ (x1 < x2) × (x2 ≤ x1 + 8) × (x2 ≤ width) × (y1 ≤ y2) × (y2 < 1024) × (first < 256) ⌝ }
-    ensures { λ _. ⌜ now (framebuffer .exit) ≡ put (box x1 x2 y1 y2) (packedFrom first x1 y1 w (now (bits .entry))) (now (framebuffer .entry)) ⌝ }
-{
-    let next = paint_pairs(framebuffer, x1, x2, y1, y2, w, first, bits);
-    if next <= STRIDE * y2 {
-        let y = (next - 1) / STRIDE;
-        paint_rows(
-            framebuffer,
-            x1,
-            x2,
-            y,
-            y2,
-            w,
-            first + (y - y1) * (w as usize),
-            bits,
-        );
-    }
-}
-
-// A glyph or a saved bitmap of w by h bits, its upper left corner at (x, y): strips of eight columns.
+// A glyph or a saved bitmap of w by h bits, its upper left corner at (x, y): only its rows are lent on.
 pub fn paint_packed(framebuffer: &mut [u8], x: u16, y: u8, w: u8, h: u8, bits: &[u8])
     ensures { λ _. ⌜ now (framebuffer .exit) ≡ packedBox x y w h (now (bits .entry)) (now (framebuffer .entry)) ⌝ }
 {
     if x < WIDTH {
         let right = least(x + w as u16, WIDTH);
-        let top = y as usize;
-        let bottom = top + h as usize;
-        let mut left = x;
-        while left < right {
-            let end = least(left + 8, right);
-            paint_strip(
-                framebuffer,
-                left,
-                end,
-                top,
-                bottom,
-                w,
-                (left - x) as usize,
-                bits,
-            );
-            left = end;
-        }
+        let len = framebuffer.len();
+        let n = h as usize;
+        let top = STRIDE * (y as usize);
+        let from = lesser(top, len);
+        let to = lesser(top + STRIDE * n, len);
+        paint_strips(&mut framebuffer[from..to], x, right, n, w, bits);
     }
 }
 
@@ -225,7 +203,7 @@ fn inline_place(x1: u8, y1: u8, x2: u8, k: u16) -> Place
     }
 }
 
-// Byte number k of data in line for the rectangle of two corners.
+// Byte number k of data in line for the rectangle of two corners: only its row is lent on.
 pub fn paint_inline(framebuffer: &mut [u8], x1: u8, y1: u8, x2: u8, y2: u8, k: u16, byte: u8)
     ensures { λ _. ⌜ now (framebuffer .exit) ≡ inlineByte x1 y1 x2 y2 k byte (now (framebuffer .entry)) ⌝ }
 {
@@ -233,9 +211,13 @@ pub fn paint_inline(framebuffer: &mut [u8], x1: u8, y1: u8, x2: u8, y2: u8, k: u
         let place = inline_place(x1, y1, x2, k);
         if place.y <= y2 as u32 {
             let x = place.x;
-            let y = place.y as u16;
+            let y = place.y as usize;
             let end = least(x + 8, x2 as u16 + 1);
-            paint_byte(framebuffer, x, end, y, byte);
+            let len = framebuffer.len();
+            let top = STRIDE * y;
+            let from = lesser(top, len);
+            let to = lesser(top + STRIDE, len);
+            paint_byte(&mut framebuffer[from..to], x, end, 0, byte);
         }
     }
 }

@@ -40,7 +40,7 @@ same-length c = search needs
 returns : tie.Need-returns
 returns c =
     let a = c .before .before .before .before .before .before .before .before .before .before .before .args in
-    byte-painted (a .framebuffer .now) (a .x1) (a .x2) (a .y) _ _ (a .byte) (c .before .before .before .before .before .before .before .before .before .least .ensures) (c .before .before .before .before .before .before .before .cell .ensures) _
+    byte-painted (a .rows .now) (a .x1) (a .x2) (a .y) _ _ (a .byte) (c .before .before .before .before .before .before .before .before .before .least .ensures) (c .before .before .before .before .before .before .before .cell .ensures) _
     (λ i. c .before .before .before .before .before .before .before .before .before .before .slice-known .given i .fits) (search needs) (search needs) (search needs) refl
     (c .before .before .before .before .before .pair-mask .ensures) (c .before .before .before .before .word .ensures .0) (c .before .before .paint-pair .ensures)
 
@@ -50,13 +50,13 @@ same-length-2 c = search needs
 returns-2 : tie.Need-returns-2
 returns-2 c =
     let a = c .before .before .before .before .before .before .before .before .before .args in
-    byte-last (a .framebuffer .now) (a .x1) (a .x2) (a .y) _ _ (a .byte) (c .before .before .before .before .before .before .before .least .ensures) (c .before .before .before .before .before .cell .ensures) _
+    byte-last (a .rows .now) (a .x1) (a .x2) (a .y) _ _ (a .byte) (c .before .before .before .before .before .before .before .least .ensures) (c .before .before .before .before .before .cell .ensures) _
     (search needs) (c .before .before .paint-cell .ensures)
 
 returns-3 : tie.Need-returns-3
 returns-3 c =
     let a = c .before .before .before .args in
-    byte-none (a .framebuffer .now) (a .x1) (a .x2) (a .y) _ (a .byte) (c .before .least .ensures) (λ i. c .before .before .slice-known .given i .fits) (search needs)
+    byte-none (a .rows .now) (a .x1) (a .x2) (a .y) _ (a .byte) (c .before .least .ensures) (λ i. c .before .before .slice-known .given i .fits) (search needs)
 
 pub paint-byte-spec : {M : Type 1} → statement M
 paint-byte-spec =

@@ -2,18 +2,15 @@ use borrow.Author.Needs.{needs}
 use mathlib.Core.Path.{refl}
 use Prim.Native.Nat.{_-_, _*_}
 use native.Mathlib.Omega.{arith}
-use Rattle.bitmap.proofs.Strips.{PairsPainted, two-there, pairs-start, pairs-end, pair-there, pairs-step}
+use Rattle.bitmap.proofs.Strips.{PairsPainted, two-there, pairs-start, pairs-end, row-there, pairs-step}
 use Rattle.bitmap.proofs.paint_pairs.Statement.{statement}
 use Rattle.bitmap.proofs.paint_pairs.Tie as tie
 
 abbrev Inv-loop : tie.InvT-loop
-Inv-loop framebuffer₀ x1 x2 y1 y2 w first bits next₀ last end start mask k₀ framebuffer next k = PairsPainted x1 x2 y1 y2 w first next k bits framebuffer₀ framebuffer
+Inv-loop rows₀ x1 x2 n w first bits next₀ last start mask k₀ rows next k = PairsPainted x1 x2 n w first next k bits rows₀ rows
 
 abbrev μ-loop : tie.MeasureT-loop
-μ-loop framebuffer₀ x1 x2 y1 y2 w first bits next₀ last end start mask k₀ framebuffer next k = 30 * y2 - next
-
-mul-next : tie.Need-mul-next Inv-loop μ-loop
-mul-next c = search needs
+μ-loop rows₀ x1 x2 n w first bits next₀ last start mask k₀ rows next k = 30 * n - next
 
 cast-next : tie.Need-cast-next Inv-loop μ-loop
 cast-next c = search needs
@@ -21,20 +18,11 @@ cast-next c = search needs
 add-next : tie.Need-add-next Inv-loop μ-loop
 add-next c = search needs
 
-add-next-2 : tie.Need-add-next-2 Inv-loop μ-loop
-add-next-2 c = search needs
-
 returns : tie.Need-returns Inv-loop μ-loop
-returns c = pairs-end (pairs-start (λ i. c .before .before .slice-known .given i .fits) (search needs) refl)
+returns c = pairs-end (pairs-start (λ i. c .before .before .slice-known .given i .fits) refl)
 
 sub-last : tie.Need-sub-last Inv-loop μ-loop
 sub-last c = search needs
-
-mul-lesser : tie.Need-mul-lesser Inv-loop μ-loop
-mul-lesser c = search needs
-
-lesser-requires : tie.Need-lesser-requires Inv-loop μ-loop
-lesser-requires c κs = search needs
 
 sub-pair-mask : tie.Need-sub-pair-mask Inv-loop μ-loop
 sub-pair-mask c = search needs
@@ -43,7 +31,7 @@ pair-mask-requires : tie.Need-pair-mask-requires Inv-loop μ-loop
 pair-mask-requires c κs = search needs
 
 loop-holds : tie.Need-loop-holds Inv-loop μ-loop
-loop-holds c = pairs-start (λ i. c .before .before .before .before .slice-known .given i .fits) (search needs) refl
+loop-holds c = pairs-start (λ i. c .before .before .before .slice-known .given i .fits) refl
 
 same-length : tie.Need-same-length Inv-loop μ-loop
 same-length c = search needs
@@ -70,21 +58,21 @@ shr-paint-pair : tie.Need-shr-paint-pair Inv-loop μ-loop
 shr-paint-pair c = search needs
 
 paint-pair-requires : tie.Need-paint-pair-requires Inv-loop μ-loop
-paint-pair-requires c κs = pair-there (c .before .before .before .before .before .loop .inv) (c .before .before .before .before .before .before .before .lesser .ensures) (search needs) .1
+paint-pair-requires c κs = omega (arith, c .before .before .before .before .before .loop .inv .at-byte)
 
-add-next-3 : tie.Need-add-next-3 Inv-loop μ-loop
-add-next-3 c = omega (arith, c .before .before .before .before .before .before .before .before .loop .inv .at-byte, c .before .before .before .before .before .before .before .before .loop .inv .strip .high)
+add-next-2 : tie.Need-add-next-2 Inv-loop μ-loop
+add-next-2 c = omega (arith, c .before .before .before .before .before .before .before .before .loop .inv .at-byte, c .before .before .before .before .before .before .before .before .loop .inv .strip .high)
 
 add-k : tie.Need-add-k Inv-loop μ-loop
 add-k c = omega (arith, c .before .before .before .before .before .before .before .before .loop .inv .strip .bound, c .before .before .before .before .before .before .before .before .loop .inv .strip .high)
 
 loop-less : tie.Need-loop-less Inv-loop μ-loop
-loop-less c = omega (arith, c .before .before .before .before .before .before .before .before .loop .inv .at-byte, pair-there (c .before .before .before .before .before .before .before .before .loop .inv) (c .before .before .before .before .before .before .before .before .before .before .lesser .ensures) (search needs) .0)
+loop-less c = omega (arith, c .before .before .before .before .before .before .before .before .loop .inv .at-byte, row-there (c .before .before .before .before .before .before .before .before .loop .inv) (search needs) (search needs))
 
 loop-again : tie.Need-loop-again Inv-loop μ-loop
 loop-again c =
-    pairs-step (c .before .before .before .before .before .before .before .before .loop .inv) (pair-there (c .before .before .before .before .before .before .before .before .loop .inv) (c .before .before .before .before .before .before .before .before .before .before .lesser .ensures) (search needs) .0) (search needs) (search needs) (search needs) (search needs)
-    (λ i. c .before .before .before .before .before .before .before .before .before .before .before .before .shared-slice-known .given i .fits) refl (c .before .before .before .before .before .before .before .before .before .pair-mask .ensures) (c .before .before .before .before .before .pair-at .ensures) (c .before .before .before .before .swapped .ensures) (c .before .before .paint-pair .ensures)
+    pairs-step (c .before .before .before .before .before .before .before .before .loop .inv) (row-there (c .before .before .before .before .before .before .before .before .loop .inv) (search needs) (search needs)) (search needs) (search needs) (search needs) (search needs)
+    (λ i. c .before .before .before .before .before .before .before .before .before .before .before .shared-slice-known .given i .fits) refl (c .before .before .before .before .before .before .before .before .before .pair-mask .ensures) (c .before .before .before .before .before .pair-at .ensures) (c .before .before .before .before .swapped .ensures) (c .before .before .paint-pair .ensures)
 
 same-length-2 : tie.Need-same-length-2 Inv-loop μ-loop
 same-length-2 c = search needs
@@ -98,14 +86,10 @@ paint-pairs-spec =
     (tie.spec
     Inv-loop
     μ-loop
-    mul-next
     cast-next
     add-next
-    add-next-2
     returns
     sub-last
-    mul-lesser
-    lesser-requires
     sub-pair-mask
     pair-mask-requires
     loop-holds
@@ -118,7 +102,7 @@ paint-pairs-spec =
     sub-paint-pair
     shr-paint-pair
     paint-pair-requires
-    add-next-3
+    add-next-2
     add-k
     loop-less
     loop-again
