@@ -1,4 +1,7 @@
 // Prints every glyph of the built-in font, 16 to a row: '#' is black, '.' white.
+use fonts::height;
+use opened_font::Glyph;
+use opened_font::glyph_of;
 ghost use mathlib.Core.Path.{_≡_};
 ghost use Prim.Native.Nat.{_<_};
 
@@ -35,41 +38,53 @@ fn show_row(rows: &[u8], width: u8, y: u8) {
     }
 }
 
-fn show_glyph(character: u8, y: u8) {
-    let rows = builtin_font::rows(character);
-    show_row(&rows, builtin_font::WIDTH, y);
+fn show_glyph(font: &[u8], character: u8, y: u8) {
+    let found = glyph_of(font, character);
+    let Glyph::At {
+        offset,
+        width,
+        height: _,
+    } = found
+    else {
+        return;
+    };
+    if offset <= font.len() {
+        show_row(&font[offset..], width, y);
+    }
 }
 
 // Row y of the characters from the first to the last, with a blank column between two.
-fn show_line(first: u8, last: u8, y: u8) {
-    show_glyph(first, y);
+fn show_line(font: &[u8], first: u8, last: u8, y: u8) {
+    show_glyph(font, first, y);
     let mut c = first;
     while c < last {
         c += 1;
         io::write_all(1, b" ");
-        show_glyph(c, y);
+        show_glyph(font, c, y);
     }
     io::write_all(1, b"\n");
 }
 
-fn show(first: u8, last: u8) {
+fn show(font: &[u8], first: u8, last: u8) {
+    let rows = height(font);
     let mut y = 0;
-    while y < builtin_font::HEIGHT {
-        show_line(first, last, y);
+    while y < rows {
+        show_line(font, first, last, y);
         y += 1;
     }
 }
 
 fn main() {
-    show(32, 47);
+    let font = builtin_font::file();
+    show(&font, 32, 47);
     io::write_all(1, b"\n");
-    show(48, 63);
+    show(&font, 48, 63);
     io::write_all(1, b"\n");
-    show(64, 79);
+    show(&font, 64, 79);
     io::write_all(1, b"\n");
-    show(80, 95);
+    show(&font, 80, 95);
     io::write_all(1, b"\n");
-    show(96, 111);
+    show(&font, 96, 111);
     io::write_all(1, b"\n");
-    show(112, 126);
+    show(&font, 112, 126);
 }

@@ -6,10 +6,13 @@ use Rattle.glyphs.proofs.show.Statement.{statement}
 use Rattle.glyphs.proofs.show.Tie as tie
 
 abbrev Inv-loop : tie.InvT-loop
-Inv-loop first last y₀ y = y ≤ y
+Inv-loop font first last rows y₀ y = y ≤ y
 
 abbrev μ-loop : tie.MeasureT-loop
-μ-loop first last y₀ y = 7 - y
+μ-loop font first last rows y₀ y = rows - y
+
+height-requires : tie.Need-height-requires Inv-loop μ-loop
+height-requires c κs = search needs
 
 loop-holds : tie.Need-loop-holds Inv-loop μ-loop
 loop-holds c = search needs
@@ -35,6 +38,7 @@ show-spec =
     (tie.spec
     Inv-loop
     μ-loop
+    height-requires
     loop-holds
     show-line-requires
     add-y

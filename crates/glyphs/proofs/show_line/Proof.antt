@@ -6,10 +6,10 @@ use Rattle.glyphs.proofs.show_line.Statement.{statement}
 use Rattle.glyphs.proofs.show_line.Tie as tie
 
 abbrev Inv-loop : tie.InvT-loop
-Inv-loop first last y c₀ t5 t6 c = c ≤ c
+Inv-loop font first last y c₀ t6 t7 c = c ≤ c
 
 abbrev μ-loop : tie.MeasureT-loop
-μ-loop first last y c₀ t5 t6 c = last - c
+μ-loop font first last y c₀ t6 t7 c = last - c
 
 show-glyph-requires : tie.Need-show-glyph-requires Inv-loop μ-loop
 show-glyph-requires c κs = search needs
