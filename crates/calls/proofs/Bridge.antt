@@ -59,9 +59,9 @@ pub fits : (s : State) → PortFits (s .port) → PanelFits (s .panel) → Fits 
 fits s p q =
     record {
       port-fits = record {
-        phase-fits = phase-fits (s .port .phase) (p .phase);
+        phase-fits = phase-fits (s .port .line .phase) (p .phase);
         args-size = p .args .six;
-        args-fit = all-of Byte 0 (s .port .args) (p .args .bytes);
+        args-fit = all-of Byte 0 (s .port .line .args) (p .args .bytes);
         text-fits = record { x-fits = p .text .x; others = (p .text .font, (p .text .y, (p .text .left, (p .text .top, (p .text .char-space, (p .text .line-space, (p .text .scroll-row, tt))))))) };
         count-fits = p .refusals .count;
         others = (p .drawing .x, (p .drawing .y, (p .flow .full, (p .flow .empty, (p .refusals .last, tt)))));
@@ -81,8 +81,8 @@ port-fits s f =
     let t = p .text-fits .others in
     let o = p .others in
     record {
-      phase = fits-phase (s .port .phase) (p .phase-fits);
-      args = record { six = p .args-size; bytes = at-all Byte 0 (s .port .args) (omega arith) (p .args-fit) };
+      phase = fits-phase (s .port .line .phase) (p .phase-fits);
+      args = record { six = p .args-size; bytes = at-all Byte 0 (s .port .line .args) (omega arith) (p .args-fit) };
       text = record { font = t .0; x = p .text-fits .x-fits; y = t .1 .0; left = t .1 .1 .0; top = t .1 .1 .1 .0; char-space = t .1 .1 .1 .1 .0; line-space = t .1 .1 .1 .1 .1 .0; scroll-row = t .1 .1 .1 .1 .1 .1 .0 };
       drawing = record { x = o .0; y = o .1 .0 };
       flow = record { full = o .1 .1 .0; empty = o .1 .1 .1 .0 };

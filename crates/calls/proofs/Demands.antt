@@ -84,7 +84,7 @@ pass : (w : World) → Kept w → checked (saved w) ≡ 0
 unfolding checked
 pass w k =
     let d = back w k in
-    let u = welcome-passes (w .state .port .phase) (w .store) (k .good .upload) in
+    let u = welcome-passes (w .state .port .line .phase) (w .store) (k .good .upload) in
     rw (eq-eqb (length (w .framebuffer)) framebufferBytes (k .framebuffer), k .store, record-sound w k, k .good .store .valid, d, u)
 
 pub kept-run : (w : World) (l : List ℕ) → Kept w → AllBytes l → Kept (run w l)
@@ -124,7 +124,7 @@ pub record Checks (m : Memory) : Type 0 where
   pub store : storeFits (m .store) ≡ true
   pub state : soundRecord framebufferRows (m .state) ≡ true
   pub valid : validOf (m .store) ≡ true
-  pub upload : uploadRefused (m .store) (decodeOf (m .state) .port .phase) ≡ false
+  pub upload : uploadRefused (m .store) (decodeOf (m .state) .port .line .phase) ≡ false
 
 checks : (m : Memory) → checked m ≡ 0 → Checks m
 unfolding checked
@@ -161,7 +161,7 @@ checked-kept m b e =
         panel-fits = panel-fits (decodeOf (m .state)) f;
         store = record { bytes = b .store; valid = c .valid };
         framebuffer = record { bytes = b .framebuffer; low = omega (arith, c .framebuffer) };
-        upload = passes-welcome (decodeOf (m .state) .port .phase) (m .store) (c .upload);
+        upload = passes-welcome (decodeOf (m .state) .port .line .phase) (m .store) (c .upload);
       };
       framebuffer = c .framebuffer;
       store = c .store;

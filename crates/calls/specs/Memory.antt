@@ -49,7 +49,7 @@ checked m =
     cond (not (eqb (length (m .framebuffer)) framebufferBytes)) 1
     (cond (not (storeFits (m .store))) 2
     (cond (not (soundRecord framebufferRows (m .state))) 3
-    (cond (not (validOf (m .store)) || uploadRefused (m .store) (decodeOf (m .state) .port .phase)) 4 0)))
+    (cond (not (validOf (m .store)) || uploadRefused (m .store) (decodeOf (m .state) .port .line .phase)) 4 0)))
 
 -- memory read, and a world written back
 abbrev pub loaded : Memory → World

@@ -127,10 +127,10 @@ module _ (g s st p r : List ℕ) where
         unfolding feedCall feedOf checked
         feed-4 h = rw (eq-eqb (length g) framebufferBytes size, ← fits, fine, ← sound, true-record, ← valid, h)
 
-        module _ (orderly : not v ≡ false) (t' : Port) (b : Bool) (read : t' ≡ portOf st) (blocked : b ≡ uploadRefused s (t' .phase)) where
-          in-record : b ≡ uploadRefused s (decodeOf st .port .phase)
+        module _ (orderly : not v ≡ false) (t' : Port) (b : Bool) (read : t' ≡ portOf st) (blocked : b ≡ uploadRefused s (t' .line .phase)) where
+          in-record : b ≡ uploadRefused s (decodeOf st .port .line .phase)
           unfolding decodeOf
-          in-record = blocked ∙ ap (λ (x : Port). uploadRefused s (x .phase)) read
+          in-record = blocked ∙ ap (λ (x : Port). uploadRefused s (x .line .phase)) read
 
           pub feed-4-upload : b ≡ true → called 4 (memory g s st) r 0 0 ≡ feedCall (memory g s st) p r
           unfolding feedCall feedOf checked
@@ -197,7 +197,7 @@ lent-ready g s m t k =
     (subst (λ (x : List ℕ). Kept (world g s (state t (panelOf x)))) (sym (lent-panel m (k .2))) (k .0), subst Written (sym (lent-panel m (k .2))) (k .1))
 
 pub ran-on : (g s m : List ℕ) (t : Port) (p r g' s' h m' : List ℕ) (t' : Port) (q : List ℕ) (a n k : ℕ) → length m ≡ recordSize
-    → Ran (world g s (state t (panelOf (midOf panelAt (recordSize - panelAt) m)))) p r (world g' s' (state t' (panelOf h))) q a n k → Written h → length (t' .args) ≡ 6
+    → Ran (world g s (state t (panelOf (midOf panelAt (recordSize - panelAt) m)))) p r (world g' s' (state t' (panelOf h))) q a n k → Written h → length (t' .line .args) ≡ 6
     → m' ≡ over (portBytes t') phaseAt (putMid panelAt (recordSize - panelAt) m h) → RanOn g s m t p r g' s' m' t' q a n k
 unfolding encodeOf
 ran-on g s m t p r g' s' h m' t' q a n k e ran written six wrote =

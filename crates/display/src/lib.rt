@@ -249,7 +249,8 @@ pub extern "C" fn display_feed(
         return BAD_DIRECTORY;
     }
     let port = decode_port(state);
-    let phase = port.phase;
+    let line = port.line;
+    let phase = line.phase;
     if is_blocked(store, phase) {
         return BAD_DIRECTORY;
     }

@@ -133,7 +133,7 @@ module _ (g s : List ℕ) (st : State) (b : ℕ) (f : Found) (sought : f ≡ fin
   unfolding argument
   bitmap-22 e = rw (← stored-not s 2 b f sought e)
 
-  pub bitmap-found : (p a z : ℕ) (args : List ℕ) → f ≡ At p a z → args ≡ set (st .port .args) 0 b
+  pub bitmap-found : (p a z : ℕ) (args : List ℕ) → f ≡ At p a z → args ≡ set (st .port .line .args) 0 b
       → argument (world g s st) 98 0 b ≡ quietly (withPort (world g s st) (withPhase (st .port) (Gathering 98 1) args))
   unfolding argument commandOf
   bitmap-found p a z args e k = rw (← stored-yes s 2 b p a z f sought e, k)
@@ -145,7 +145,7 @@ bitmap-is w k i b t e h =
     let p = and-both (eqb k 98) (eqb i 0) (sym e ∙ h) in rw (eqb-true k 98 (p .0), eqb-true i 0 (p .1))
 
 module _ (pt : Port) (k i b : ℕ) (t : Bool) (c : Command) (n : ℕ) (a : List ℕ) (tested : t ≡ (eqb k 98 && eqb i 0)) (other : t ≡ false)
-    (named : c ≡ commandOf k) (counted : n ≡ argumentsOf c) (kept : a ≡ set (pt .args) i b) where
+    (named : c ≡ commandOf k) (counted : n ≡ argumentsOf c) (kept : a ≡ set (pt .line .args) i b) where
   pub argument-kept : (g s : List ℕ) (q : Panel) → i + 1 < n
       → argument (world g s (state pt q)) k i b ≡ quietly (world g s (state (withPhase pt (Gathering k (i + 1)) a) q))
   unfolding argument
@@ -162,25 +162,25 @@ module _ (pt : Port) (k i b : ℕ) (t : Bool) (c : Command) (n : ℕ) (a : List 
 -- ---- the phase
 
 module _ (w : World) (b : ℕ) where
-  in-phase-of : (p : Phase) → port w .phase ≡ p → outcome w b ≡ byPhase p w b
+  in-phase-of : (p : Phase) → port w .line .phase ≡ p → outcome w b ≡ byPhase p w b
   in-phase-of p e = ap (λ (q : Phase). byPhase q w b) e
 
-  pub in-idle : port w .phase ≡ Idle → outcome w b ≡ alone w b
+  pub in-idle : port w .line .phase ≡ Idle → outcome w b ≡ alone w b
   unfolding byPhase
   in-idle e = in-phase-of Idle e
 
-  pub in-prefix : port w .phase ≡ Prefix → outcome w b ≡ code w b
+  pub in-prefix : port w .line .phase ≡ Prefix → outcome w b ≡ code w b
   unfolding byPhase
   in-prefix e = in-phase-of Prefix e
 
-  pub in-gathering : (c g : ℕ) → port w .phase ≡ Gathering c g → outcome w b ≡ argument w c g b
+  pub in-gathering : (c g : ℕ) → port w .line .phase ≡ Gathering c g → outcome w b ≡ argument w c g b
   unfolding byPhase
   in-gathering c g e = in-phase-of (Gathering c g) e
 
-  pub in-inline : (x1 y1 x2 y2 d : ℕ) → port w .phase ≡ Inline x1 y1 x2 y2 d → outcome w b ≡ inlineData w x1 y1 x2 y2 d b
+  pub in-inline : (x1 y1 x2 y2 d : ℕ) → port w .line .phase ≡ Inline x1 y1 x2 y2 d → outcome w b ≡ inlineData w x1 y1 x2 y2 d b
   unfolding byPhase
   in-inline x1 y1 x2 y2 d e = in-phase-of (Inline x1 y1 x2 y2 d) e
 
-  pub in-upload : (k n z i : ℕ) (v : Bool) (c : ℕ) → port w .phase ≡ Upload k n z i v c → outcome w b ≡ uploadData w k n z i v c b
+  pub in-upload : (k n z i : ℕ) (v : Bool) (c : ℕ) → port w .line .phase ≡ Upload k n z i v c → outcome w b ≡ uploadData w k n z i v c b
   unfolding byPhase
   in-upload k n z i v c e = in-phase-of (Upload k n z i v c) e

@@ -11,6 +11,7 @@ use refusals::NO_SUCH_FILE;
 use refusals::UNKNOWN_COMMAND;
 use state::ARGUMENTS;
 use state::Command;
+use state::Line;
 use state::Phase;
 use state::Port;
 use state::arguments_of;
@@ -136,9 +137,9 @@ fn take_code(
 
 // The arguments with one more, as far as there is a place for it.
 fn gathered(port: Port, got: u8, byte: u8) -> [u8; ARGUMENTS]
-    ensures { λ r. ⌜ r ≡ set (port .args) got byte ⌝ }
+    ensures { λ r. ⌜ r ≡ set (port .line .args) got byte ⌝ }
 {
-    let mut args = port.args;
+    let mut args = port.line.args;
     let i = got as usize;
     if i >= ARGUMENTS {
         return args;
@@ -150,21 +151,16 @@ fn gathered(port: Port, got: u8, byte: u8) -> [u8; ARGUMENTS]
 fn gathering(port: Port, code: u8, got: u8, args: [u8; ARGUMENTS]) -> Port
     ensures { λ r. ⌜ r ≡ withPhase port (Gathering code got) args ⌝ }
 {
-    let text = port.text;
-    let drawing = port.drawing;
-    let flow = port.flow;
-    let refusals = port.refusals;
-    Port {
+    let line = Line {
         phase: Phase::Gathering {
             code: code,
             got: got,
         },
         args: args,
-        text: text,
-        drawing: drawing,
-        flow: flow,
-        refusals: refusals,
-    }
+    };
+    let mut next = port;
+    next.line = line;
+    next
 }
 
 // Whether a saved bitmap's number is due.
@@ -239,7 +235,8 @@ pub fn step(
 ) -> Outcome
     ensures { λ r. ⌜ Obeys (told height) (λ w. outcome w byte) port (lent (now (framebuffer .entry)) (now (framebuffer .exit))) (lent (now (store .entry)) (now (store .exit))) (lent (now (panel .entry)) (now (panel .exit))) r ⌝ }
 {
-    let phase = port.phase;
+    let line = port.line;
+    let phase = line.phase;
     match phase {
         Phase::Idle => take_alone(framebuffer, store, port, height, byte),
         Phase::Prefix => take_code(framebuffer, store, panel, port, height, byte),

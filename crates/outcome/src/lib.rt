@@ -1,5 +1,6 @@
 // What comes of a byte: the next port, and the bytes to send. A refusal alters nothing of the port but what it names.
 use state::ARGUMENTS;
+use state::Line;
 use state::Phase;
 use state::Port;
 use state::Refusals;
@@ -44,18 +45,13 @@ pub fn two_bytes(first: u8, second: u8) -> Reply
 pub fn in_phase(port: Port, phase: Phase) -> Port
     ensures { λ r. ⌜ r ≡ inPhaseOf port phase ⌝ }
 {
-    let text = port.text;
-    let drawing = port.drawing;
-    let flow = port.flow;
-    let refusals = port.refusals;
-    Port {
+    let line = Line {
         phase: phase,
         args: [0; ARGUMENTS],
-        text: text,
-        drawing: drawing,
-        flow: flow,
-        refusals: refusals,
-    }
+    };
+    let mut next = port;
+    next.line = line;
+    next
 }
 
 pub fn put_text(port: Port, text: Text) -> Port

@@ -103,22 +103,22 @@ module _ (q : Panel) (b : length (q .bars) ≡ 16) (t : length (q .strips) ≡ 8
   panel-back = rw (bars-back, strips-back, serial-back, contrast-back, backlight-back)
 
 module _ (s : State) (z : Sized s) where
-  flat : encodeOf s ≡ gatheringBytes (s .port .phase)
-      ++ (s .port .args ++ (dataBytes (s .port .phase) ++ (uploadBytes (s .port .phase) ++ (textBytes (s .port .text) ++ (otherBytes (s .port) ++ panelBytes (s .panel))))))
+  flat : encodeOf s ≡ gatheringBytes (s .port .line .phase)
+      ++ (s .port .line .args ++ (dataBytes (s .port .line .phase) ++ (uploadBytes (s .port .line .phase) ++ (textBytes (s .port .text) ++ (otherBytes (s .port) ++ panelBytes (s .panel))))))
   unfolding encodeOf portBytes phaseBytes
   flat = simp append-assoc
 
-  at-arguments : drop 3 (encodeOf s) ≡ s .port .args ++ (dataBytes (s .port .phase) ++ (uploadBytes (s .port .phase) ++ (textBytes (s .port .text) ++ (otherBytes (s .port) ++ panelBytes (s .panel)))))
-  at-arguments = next (encodeOf s) (gatheringBytes (s .port .phase)) _ 0 3 flat (length-gathering (s .port .phase))
+  at-arguments : drop 3 (encodeOf s) ≡ s .port .line .args ++ (dataBytes (s .port .line .phase) ++ (uploadBytes (s .port .line .phase) ++ (textBytes (s .port .text) ++ (otherBytes (s .port) ++ panelBytes (s .panel)))))
+  at-arguments = next (encodeOf s) (gatheringBytes (s .port .line .phase)) _ 0 3 flat (length-gathering (s .port .line .phase))
 
-  at-data : drop 9 (encodeOf s) ≡ dataBytes (s .port .phase) ++ (uploadBytes (s .port .phase) ++ (textBytes (s .port .text) ++ (otherBytes (s .port) ++ panelBytes (s .panel))))
-  at-data = next (encodeOf s) (s .port .args) _ 3 6 at-arguments (z .args)
+  at-data : drop 9 (encodeOf s) ≡ dataBytes (s .port .line .phase) ++ (uploadBytes (s .port .line .phase) ++ (textBytes (s .port .text) ++ (otherBytes (s .port) ++ panelBytes (s .panel))))
+  at-data = next (encodeOf s) (s .port .line .args) _ 3 6 at-arguments (z .args)
 
-  at-upload : drop 15 (encodeOf s) ≡ uploadBytes (s .port .phase) ++ (textBytes (s .port .text) ++ (otherBytes (s .port) ++ panelBytes (s .panel)))
-  at-upload = next (encodeOf s) (dataBytes (s .port .phase)) _ 9 6 at-data (length-data (s .port .phase))
+  at-upload : drop 15 (encodeOf s) ≡ uploadBytes (s .port .line .phase) ++ (textBytes (s .port .text) ++ (otherBytes (s .port) ++ panelBytes (s .panel)))
+  at-upload = next (encodeOf s) (dataBytes (s .port .line .phase)) _ 9 6 at-data (length-data (s .port .line .phase))
 
   at-text : drop 23 (encodeOf s) ≡ textBytes (s .port .text) ++ (otherBytes (s .port) ++ panelBytes (s .panel))
-  at-text = next (encodeOf s) (uploadBytes (s .port .phase)) _ 15 8 at-upload (length-upload (s .port .phase))
+  at-text = next (encodeOf s) (uploadBytes (s .port .line .phase)) _ 15 8 at-upload (length-upload (s .port .line .phase))
 
   at-drawing : drop 34 (encodeOf s) ≡ otherBytes (s .port) ++ panelBytes (s .panel)
   at-drawing = next (encodeOf s) (textBytes (s .port .text)) _ 23 11 at-text refl
@@ -134,11 +134,11 @@ module _ (s : State) (z : Sized s) where
 
   -- ---- and is read there
 
-  pub phase-read : phaseOf (encodeOf s) ≡ s .port .phase
-  phase-read = phase-back (s .port .phase) (encodeOf s) _ _ _ flat at-data at-upload
+  pub phase-read : phaseOf (encodeOf s) ≡ s .port .line .phase
+  phase-read = phase-back (s .port .line .phase) (encodeOf s) _ _ _ flat at-data at-upload
 
-  pub arguments-read : argumentsIn (drop 3 (encodeOf s)) ≡ s .port .args
-  arguments-read = ap argumentsIn at-arguments ∙ arguments-back (s .port .args) _ (z .args)
+  pub arguments-read : argumentsIn (drop 3 (encodeOf s)) ≡ s .port .line .args
+  arguments-read = ap argumentsIn at-arguments ∙ arguments-back (s .port .line .args) _ (z .args)
 
   pub text-read : textOf (drop 23 (encodeOf s)) ≡ s .port .text
   text-read = ap textOf at-text ∙ text-back (s .port .text) (otherBytes (s .port) ++ panelBytes (s .panel))

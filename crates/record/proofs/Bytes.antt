@@ -144,10 +144,10 @@ unfolding portBytes phaseBytes
 port-written p f =
     let t = f .text-fits .others in
     let o = f .others in
-    all-append (gatheringBytes (p .phase) ++ (p .args ++ (dataBytes (p .phase) ++ uploadBytes (p .phase)))) (textBytes (p .text) ++ otherBytes p)
-    (all-append (gatheringBytes (p .phase)) _ (gathering-fits (p .phase) (f .phase-fits))
-    (all-append (p .args) _ (f .args-fit)
-    (all-append (dataBytes (p .phase)) _ (data-fits (p .phase) (f .phase-fits)) (upload-written (p .phase) (f .phase-fits)))))
+    all-append (gatheringBytes (p .line .phase) ++ (p .line .args ++ (dataBytes (p .line .phase) ++ uploadBytes (p .line .phase)))) (textBytes (p .text) ++ otherBytes p)
+    (all-append (gatheringBytes (p .line .phase)) _ (gathering-fits (p .line .phase) (f .phase-fits))
+    (all-append (p .line .args) _ (f .args-fit)
+    (all-append (dataBytes (p .line .phase)) _ (data-fits (p .line .phase) (f .phase-fits)) (upload-written (p .line .phase) (f .phase-fits)))))
     (all-append (textBytes (p .text)) (otherBytes p)
     (t .0, (low-fits (p .text .x), (high-fits (p .text .x) (f .text-fits .x-fits), (t .1 .0, (t .1 .1 .0, (t .1 .1 .1 .0, (t .1 .1 .1 .1 .0, (t .1 .1 .1 .1 .1 .0, (t .1 .1 .1 .1 .1 .1 .0, (bit-fits (p .text .wrap), (bit-fits (p .text .scroll), tt)))))))))))
     (bit-fits (p .drawing .colour .black), (o .0, (o .1 .0, (bit-fits (p .flow .on), (o .1 .1 .0, (o .1 .1 .1 .0, (low-fits (p .refusals .count), (high-fits (p .refusals .count) (f .count-fits), (o .1 .1 .1 .1 .0, tt))))))))))

@@ -20,7 +20,7 @@ use Rattle.state.specs.declared.Strip.{Strip}
 use Rattle.state.specs.declared.Serial.{Serial}
 use Rattle.state.specs.declared.Backlight.{Backlight}
 use Rattle.state.specs.declared.Panel.{Panel}
-use Rattle.state.specs.State.{state}
+use Rattle.state.specs.State.{lineOf, state}
 use Rattle.record.specs.Layout.{phaseAt, codeAt, gotAt, argumentsAt, inlineAt, uploadAt, textAt, drawingAt, flowAt, refusalsAt, panelAt, barsAt, barSize, panelStrips, stripsAt, stripSize, panelSerial, serialAt, panelContrast, contrastAt, panelBacklight, backlightAt}
 use Rattle.record.specs.Reading.{manyOf, inlineOf, uploadOf, phaseOf, argumentsIn, textOf, drawingOf, flowOf, refusalsOf, portOf}
 use Rattle.record.specs.Reading.{slotOf, stripOf, serialOf, backlightOf, panelOf, decodeOf}
@@ -65,7 +65,7 @@ upload-written p k n z s w b a1 a2 a3 a4 a5 e f1 f2 f3 f4 f5 = rw (e, f1, f2, f3
 
 pub port-is : (r : List ℕ) (p : Phase) (a : List ℕ) (t : Text) (d : Drawing) (f : Flow) (n : Refusals) → p ≡ phaseOf r → a ≡ argumentsIn (drop argumentsAt r)
     → t ≡ textOf (drop textAt r) → d ≡ drawingOf (drop drawingAt r) → f ≡ flowOf (drop flowAt r) → n ≡ refusalsOf (drop refusalsAt r)
-    → record { phase = p; args = a; text = t; drawing = d; flow = f; refusals = n } ≡ portOf r
+    → record { line = lineOf p a; text = t; drawing = d; flow = f; refusals = n } ≡ portOf r
 unfolding portOf
 port-is r p a t d f n ep ea et ed ef en = rw (ep, ea, et, ed, ef, en)
 

@@ -45,18 +45,18 @@ part l m a b e f = length-append l m ∙ rw (e, f)
 
 -- the arrays of the program
 pub record Sized (s : State) : Type 0 where
-  pub args : length (s .port .args) ≡ 6
+  pub args : length (s .port .line .args) ≡ 6
   pub bars : length (s .panel .bars) ≡ 16
   pub strips : length (s .panel .strips) ≡ 8
 
-pub length-phase : (p : Port) → length (p .args) ≡ 6 → length (phaseBytes p) ≡ 23
+pub length-phase : (p : Port) → length (p .line .args) ≡ 6 → length (phaseBytes p) ≡ 23
 unfolding phaseBytes
 length-phase p e =
-    part (gatheringBytes (p .phase)) _ 3 20 (length-gathering (p .phase))
-    (part (p .args) _ 6 14 e
-    (part (dataBytes (p .phase)) _ 6 8 (length-data (p .phase)) (length-upload (p .phase))))
+    part (gatheringBytes (p .line .phase)) _ 3 20 (length-gathering (p .line .phase))
+    (part (p .line .args) _ 6 14 e
+    (part (dataBytes (p .line .phase)) _ 6 8 (length-data (p .line .phase)) (length-upload (p .line .phase))))
 
-pub length-port : (p : Port) → length (p .args) ≡ 6 → length (portBytes p) ≡ 43
+pub length-port : (p : Port) → length (p .line .args) ≡ 6 → length (portBytes p) ≡ 43
 unfolding portBytes
 length-port p e = part (phaseBytes p) _ 23 20 (length-phase p e) refl
 
@@ -79,18 +79,18 @@ length-sized s z = part (portBytes (s .port)) _ 43 158 (length-port (s .port) (z
 same-over : (l m : List ℕ) (k : ℕ) (g h : List ℕ) → l ≡ m → h ≡ over l k g → h ≡ over m k g
 same-over l m k g h e f = f ∙ ap (λ (x : List ℕ). over x k g) e
 
-pub phase-written : (p : Port) (g g1 g2 g3 g4 a c d : List ℕ) → length (p .args) ≡ 6 → a ≡ gatheringBytes (p .phase) → g1 ≡ over a 0 g → g2 ≡ over (p .args) 3 g1
-    → c ≡ dataBytes (p .phase) → g3 ≡ over c 9 g2 → d ≡ uploadBytes (p .phase) → g4 ≡ over d 15 g3 → g4 ≡ over (phaseBytes p) 0 g
+pub phase-written : (p : Port) (g g1 g2 g3 g4 a c d : List ℕ) → length (p .line .args) ≡ 6 → a ≡ gatheringBytes (p .line .phase) → g1 ≡ over a 0 g → g2 ≡ over (p .line .args) 3 g1
+    → c ≡ dataBytes (p .line .phase) → g3 ≡ over c 9 g2 → d ≡ uploadBytes (p .line .phase) → g4 ≡ over d 15 g3 → g4 ≡ over (phaseBytes p) 0 g
 unfolding phaseBytes
 phase-written p g g1 g2 g3 g4 a c d s ea e1 e2 ec e3 ed e4 =
-    let middle = dataBytes (p .phase) in
-    let rest = uploadBytes (p .phase) in
-    sym (over-next (gatheringBytes (p .phase)) (p .args ++ (middle ++ rest)) 0 3 g g1 (length-gathering (p .phase)) (same-over a _ 0 g g1 ea e1)
-    ∙ over-next (p .args) (middle ++ rest) 3 6 g1 g2 s e2
-    ∙ over-next middle rest 9 6 g2 g3 (length-data (p .phase)) (same-over c _ 9 g2 g3 ec e3)
+    let middle = dataBytes (p .line .phase) in
+    let rest = uploadBytes (p .line .phase) in
+    sym (over-next (gatheringBytes (p .line .phase)) (p .line .args ++ (middle ++ rest)) 0 3 g g1 (length-gathering (p .line .phase)) (same-over a _ 0 g g1 ea e1)
+    ∙ over-next (p .line .args) (middle ++ rest) 3 6 g1 g2 s e2
+    ∙ over-next middle rest 9 6 g2 g3 (length-data (p .line .phase)) (same-over c _ 9 g2 g3 ec e3)
     ∙ sym (same-over d _ 15 g3 g4 ed e4))
 
-pub port-written : (p : Port) (g g1 g2 g3 t o : List ℕ) → length (p .args) ≡ 6 → g1 ≡ over (phaseBytes p) 0 g → t ≡ textBytes (p .text) → g2 ≡ over t 23 g1
+pub port-written : (p : Port) (g g1 g2 g3 t o : List ℕ) → length (p .line .args) ≡ 6 → g1 ≡ over (phaseBytes p) 0 g → t ≡ textBytes (p .text) → g2 ≡ over t 23 g1
     → o ≡ otherBytes p → g3 ≡ over o 34 g2 → g3 ≡ over (portBytes p) 0 g
 unfolding portBytes
 port-written p g g1 g2 g3 t o s e1 et e2 eo e3 =

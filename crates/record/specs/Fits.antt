@@ -36,9 +36,9 @@ pub record FitsText (t : Text) : Type 0 where
   pub others : All Byte (t .font ∷ t .y ∷ t .left ∷ t .top ∷ t .«char_space» ∷ t .«line_space» ∷ t .«scroll_row» ∷ [])
 
 pub record FitsPort (p : Port) : Type 0 where
-  pub phase-fits : FitsPhase (p .phase)
-  pub args-size : length (p .args) ≡ 6
-  pub args-fit : All Byte (p .args)
+  pub phase-fits : FitsPhase (p .line .phase)
+  pub args-size : length (p .line .args) ≡ 6
+  pub args-fit : All Byte (p .line .args)
   pub text-fits : FitsText (p .text)
   pub count-fits : Pair (p .refusals .count)
   pub others : All Byte (p .drawing .x ∷ p .drawing .y ∷ p .flow .full ∷ p .flow .empty ∷ p .refusals .last ∷ [])

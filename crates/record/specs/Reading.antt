@@ -20,7 +20,7 @@ use Rattle.state.specs.declared.Serial.{Serial}
 use Rattle.state.specs.declared.Backlight.{Backlight}
 use Rattle.state.specs.declared.Panel.{Panel}
 use Rattle.state.specs.declared.State.{State}
-use Rattle.state.specs.State.{barOf, barSlot, strip, state}
+use Rattle.state.specs.State.{lineOf, barOf, barSlot, strip, state}
 use Rattle.record.specs.Layout.{phaseAt, codeAt, gotAt, argumentsAt, inlineAt, uploadAt, textAt, drawingAt, flowAt, refusalsAt, panelAt, panelBars, barSize, panelStrips, stripSize, panelSerial, panelContrast, panelBacklight}
 
 -- a number of two bytes, low byte first
@@ -83,8 +83,7 @@ refusalsOf l = record { count = pairAt l 0; last = at l 2 }
 unfoldable pub portOf : List ℕ → Port
 portOf r =
     record {
-      phase = phaseOf r;
-      args = argumentsIn (drop argumentsAt r);
+      line = lineOf (phaseOf r) (argumentsIn (drop argumentsAt r));
       text = textOf (drop textAt r);
       drawing = drawingOf (drop drawingAt r);
       flow = flowOf (drop flowAt r);

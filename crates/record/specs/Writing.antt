@@ -60,7 +60,7 @@ otherBytes p =
 
 -- the phase with the arguments
 unfoldable pub phaseBytes : Port → List ℕ
-phaseBytes p = gatheringBytes (p .phase) ++ (p .args ++ (dataBytes (p .phase) ++ uploadBytes (p .phase)))
+phaseBytes p = gatheringBytes (p .line .phase) ++ (p .line .args ++ (dataBytes (p .line .phase) ++ uploadBytes (p .line .phase)))
 
 unfoldable pub portBytes : Port → List ℕ
 portBytes p = phaseBytes p ++ (textBytes (p .text) ++ otherBytes p)

@@ -24,6 +24,7 @@ use state::BARS;
 use state::Backlight;
 use state::BarSlot;
 use state::Drawing;
+use state::Line;
 use state::Panel;
 use state::Phase;
 use state::Port;
@@ -213,8 +214,10 @@ pub fn decode_port(r: &[u8]) -> Port
     ensures { λ p. ⌜ p ≡ portOf (now (r .entry)) ⌝ }
 {
     Port {
-        phase: phase_of(r),
-        args: arguments_in(r),
+        line: Line {
+            phase: phase_of(r),
+            args: arguments_in(r),
+        },
         text: text_of(r),
         drawing: drawing_of(r),
         flow: flow_of(r),

@@ -197,12 +197,13 @@ fn encode_arguments(args: [u8; ARGUMENTS], out: &mut [u8])
 }
 
 fn encode_phase(port: Port, out: &mut [u8])
-    ensures { λ _. ⌜ (now (out .exit) ≡ over (phaseBytes port) phaseAt (now (out .entry))) × (length (port .args) ≡ 6) ⌝ }
+    ensures { λ _. ⌜ (now (out .exit) ≡ over (phaseBytes port) phaseAt (now (out .entry))) × (length (port .line .args) ≡ 6) ⌝ }
 {
-    let phase = port.phase;
+    let line = port.line;
+    let phase = line.phase;
     let gathering = gathering_bytes(phase);
     put(out, PHASE, &gathering);
-    let args = port.args;
+    let args = line.args;
     encode_arguments(args, out);
     let inline = data_bytes(phase);
     put(out, INLINE, &inline);
@@ -212,7 +213,7 @@ fn encode_phase(port: Port, out: &mut [u8])
 
 // Writes the bytes of a port over the first bytes, as far as there are any; all others stay.
 pub fn encode_port(port: Port, out: &mut [u8])
-    ensures { λ _. ⌜ (now (out .exit) ≡ over (portBytes port) phaseAt (now (out .entry))) × (length (port .args) ≡ 6) ⌝ }
+    ensures { λ _. ⌜ (now (out .exit) ≡ over (portBytes port) phaseAt (now (out .entry))) × (length (port .line .args) ≡ 6) ⌝ }
 {
     encode_phase(port, out);
     let text = port.text;

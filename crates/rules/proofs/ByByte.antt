@@ -82,7 +82,7 @@ argument-obeys : (w : World) (c g b : ℕ) → Shaped w → Obeying w (meant (Ga
 unfolding meant argument
 argument-obeys w c g b s =
     both w (noBitmap w c g b) _ _ _ _ (λ _. tt)
-    (λ _. both w (ltb (g + 1) (argumentsOf (commandOf c))) _ _ _ _ (λ _. fair-quiet w _ refl refl refl refl) (λ _. obey-fair (commandOf c) (set (port w .args) g b) w s))
+    (λ _. both w (ltb (g + 1) (argumentsOf (commandOf c))) _ _ _ _ (λ _. fair-quiet w _ refl refl refl refl) (λ _. obey-fair (commandOf c) (set (port w .line .args) g b) w s))
 
 alone-obeys : (w : World) (b : ℕ) → Obeying w (meant Idle w b) (alone w b)
 unfolding meant alone
@@ -110,7 +110,7 @@ stepped w e (refused n r) f = record { obeys = record { paints = refl; bars = λ
 
 pub byte-steps : (w : World) (b : ℕ) → Shaped w → Stepped w (event w b) (step w b)
 unfolding event step
-byte-steps w b s = stepped w (meant (port w .phase) w b) (outcome w b) (phase-obeys (port w .phase) w b s)
+byte-steps w b s = stepped w (meant (port w .line .phase) w b) (outcome w b) (phase-obeys (port w .line .phase) w b s)
 
 pub shaped-step : (w : World) (b : ℕ) → Shaped w → Shaped (step w b)
 shaped-step w b s = byte-steps w b s .bars ∙ s

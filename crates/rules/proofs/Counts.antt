@@ -30,7 +30,7 @@ counted w e (refused n r) h f = record { count = refl; last = refl }
 
 byte-counts : (w : World) (b : ℕ) → Shaped w → port w .refusals .count < 65536 → Counted w (step w b) (outcome w b)
 unfolding step
-byte-counts w b s h = counted w (meant (port w .phase) w b) (outcome w b) h (phase-obeys (port w .phase) w b s)
+byte-counts w b s h = counted w (meant (port w .line .phase) w b) (outcome w b) h (phase-obeys (port w .line .phase) w b s)
 
 pub refusal-count : (w : World) (l : List ℕ) → Shaped w → port w .refusals .count < 65536
     → port (run w l) .refusals .count ≡ (port w .refusals .count + refusedOf w l) % 65536

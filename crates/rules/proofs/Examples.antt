@@ -90,7 +90,7 @@ unfolding setUpBar writeBar after height lengthOf heldTo
 values-held = (refl, refl, refl)
 
 abbrev pub nextPhase : ℕ → Phase
-nextPhase d = port (after blank (inlineData blank 0 0 8 1 d 255)) .phase
+nextPhase d = port (after blank (inlineData blank 0 0 8 1 d 255)) .line .phase
 
 -- the data of a rectangle nine columns wide: two bytes to a row, and after the last one no more
 pub data-bytes : (nextPhase 0 ≡ Inline 0 0 8 1 1) × (nextPhase 3 ≡ Idle)

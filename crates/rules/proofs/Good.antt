@@ -48,7 +48,7 @@ pub record FlowGood (f : Flow) : Type 0 where
   pub fits : FlowFits f
 
 pub record PortGood (p : Port) (s : List ℕ) : Type 0 where
-  pub phase : PhaseGood (p .phase) (p .args) s
+  pub phase : PhaseGood (p .line .phase) (p .line .args) s
   pub text : TextGood (p .text)
   pub drawing : DrawingFits (p .drawing)
   pub flow : FlowGood (p .flow)
@@ -97,7 +97,7 @@ pub record Parts (n m : ℕ) (w : World) : Type 0 where
 
 -- ---- from a good world to its parts
 
-port-parts : (p : Port) (s : List ℕ) → soundPort p ≡ true → thresholdsFit (p .flow) ≡ true → canonicalPort p ≡ true → PortFits p → Welcome (p .phase) s → PortGood p s
+port-parts : (p : Port) (s : List ℕ) → soundPort p ≡ true → thresholdsFit (p .flow) ≡ true → canonicalPort p ≡ true → PortFits p → Welcome (p .line .phase) s → PortGood p s
 unfolding soundPort soundText canonicalPort
 port-parts p s h t k f u =
     let a = and-both _ _ h in
@@ -210,7 +210,7 @@ module _ {n m : ℕ} {w : World} (p : Parts n m w) where
   put-strips g = let q = p .panel-good in put-panel (record { bars = q .bars; strips = g; serial = q .serial; contrast = q .contrast; minutes = q .minutes })
 
   -- the store, with the phase as it stands for the new one
-  pub put-store : {s : List ℕ} → StoreGood m s → PhaseGood (port w .phase) (port w .args) s → Parts n m (withStore w s)
+  pub put-store : {s : List ℕ} → StoreGood m s → PhaseGood (port w .line .phase) (port w .line .args) s → Parts n m (withStore w s)
   put-store g f =
       let q = p .port-good in
       record {

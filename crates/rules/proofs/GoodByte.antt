@@ -123,7 +123,7 @@ module _ {n m : ℕ} {w : World} (p : Parts n m w) where
       by-test (Leaves n m) (eqb k 0) _ _ (λ _. commands (commandOf b) [] bytes-none)
       (λ e. put-phase p (settled (Gathering b 0) (w .store) (lt-ltb 0 k (omega (arith, eqb-false k 0 e))) refl refl (h, omega arith) tt))
 
-  argument-good : (c g b : ℕ) → PhaseGood (Gathering c g) (port w .args) (w .store) → b < 256 → Leaves n m (argument w c g b)
+  argument-good : (c g b : ℕ) → PhaseGood (Gathering c g) (port w .line .args) (w .store) → b < 256 → Leaves n m (argument w c g b)
   unfolding argument soundPhase canonicalPhase
   argument-good c g b q h =
       let k = argumentsOf (commandOf c) in
@@ -132,14 +132,14 @@ module _ {n m : ℕ} {w : World} (p : Parts n m w) where
       (λ e. put-phase p (record {
         sound = e;
         canonical = refl;
-        zeros = zeros-set (port w .args) g b (q .zeros);
+        zeros = zeros-set (port w .line .args) g b (q .zeros);
         fits = (q .fits .0, omega (arith, ltb-true (g + 1) k e, six-most (commandOf c)));
-        args = args-set (port w .args) g b (q .args) h;
+        args = args-set (port w .line .args) g b (q .args) h;
         welcome = tt;
       }))
-      (λ _. commands (commandOf c) (set (port w .args) g b) (bytes-set (port w .args) g b (q .args .bytes) h)))
+      (λ _. commands (commandOf c) (set (port w .line .args) g b) (bytes-set (port w .line .args) g b (q .args .bytes) h)))
 
-  phase-good : (f : Phase) (b : ℕ) → PhaseGood f (port w .args) (w .store) → b < 256 → Leaves n m (byPhase f w b)
+  phase-good : (f : Phase) (b : ℕ) → PhaseGood f (port w .line .args) (w .store) → b < 256 → Leaves n m (byPhase f w b)
   unfolding byPhase
   phase-good Idle b q h = alone-good b
   phase-good Prefix b q h = code-good b h
@@ -155,7 +155,7 @@ module _ {n m : ℕ} {w : World} (p : Parts n m w) where
 
   pub parts-step : (b : ℕ) → b < 256 → Parts n m (step w b)
   unfolding step
-  parts-step b h = after-good (outcome w b) (phase-good (port w .phase) b (p .port-good .phase) h)
+  parts-step b h = after-good (outcome w b) (phase-good (port w .line .phase) b (p .port-good .phase) h)
 
 -- THE THEOREM, for one byte and for every stream of bytes
 pub good-step : (w : World) (b : ℕ) → Good w → b < 256 → Good (step w b)

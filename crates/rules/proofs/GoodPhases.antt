@@ -71,7 +71,7 @@ module _ {n m : ℕ} {w : World} (p : Parts n m w) where
       passes n m (not (ordered x1 y1 x2 y2)) 18 _ (omega arith) (λ h.
       put-phase p (settled (Inline x1 y1 x2 y2 0) (w .store) (rw (not-false (ordered x1 y1 x2 y2) h, lt-ltb 0 (inlineBytes x1 y1 x2 y2) (inline-some x1 y1 x2 y2))) refl refl (a, b, c, d, omega arith) tt))
 
-  pub inline-good : (x1 y1 x2 y2 d b : ℕ) → PhaseGood (Inline x1 y1 x2 y2 d) (port w .args) (w .store) → Leaves n m (inlineData w x1 y1 x2 y2 d b)
+  pub inline-good : (x1 y1 x2 y2 d b : ℕ) → PhaseGood (Inline x1 y1 x2 y2 d) (port w .line .args) (w .store) → Leaves n m (inlineData w x1 y1 x2 y2 d b)
   unfolding inlineData soundPhase soundInline canonicalPhase
   inline-good x1 y1 x2 y2 d b q =
       let f = q .fits in
@@ -90,7 +90,7 @@ module _ {n m : ℕ} {w : World} (p : Parts n m w) where
       put-phase p (settled (Upload k i z 0 false 0) (w .store) (lt-ltb 0 z (omega (arith, eqb-false z 0 (room (w .store) z v .some)))) (rw e) refl
       (hk, hi, hz, omega arith, omega arith) (u, v))))
 
-  confirmed-good : (k i z s c : ℕ) → PhaseGood (Upload k i z s true c) (port w .args) (w .store) → Parts n m (confirmed w k i z s c)
+  confirmed-good : (k i z s c : ℕ) → PhaseGood (Upload k i z s true c) (port w .line .args) (w .store) → Parts n m (confirmed w k i z s c)
   unfolding soundPhase canonicalPhase canonicalUpload
   confirmed-good k i z s c q =
       let f = q .fits in
@@ -104,7 +104,7 @@ module _ {n m : ℕ} {w : World} (p : Parts n m w) where
       (f .0, f .1, f .2, omega (arith, ltb-true (s + 1) z h, f .2), omega arith) (x, y)))
       (λ _. put-both p (appended-good t k i z e (f .0) (f .1) (f .2) x y) (idle-good _))
 
-  pub data-good : (k i z s : ℕ) (v : Bool) (c b : ℕ) → PhaseGood (Upload k i z s v c) (port w .args) (w .store) → b < 256 → Leaves n m (uploadData w k i z s v c b)
+  pub data-good : (k i z s : ℕ) (v : Bool) (c b : ℕ) → PhaseGood (Upload k i z s v c) (port w .line .args) (w .store) → b < 256 → Leaves n m (uploadData w k i z s v c b)
   unfolding uploadData soundPhase canonicalPhase canonicalUpload
   data-good k i z s false c b q h =
       let f = q .fits in
@@ -113,14 +113,14 @@ module _ {n m : ℕ} {w : World} (p : Parts n m w) where
   data-good k i z s true c b q h = passes n m (not (eqb b 1)) 26 _ (omega arith) (λ _. confirmed-good k i z s c q)
 
   -- outside a command
-  pub delete-good : ((s : List ℕ) → PhaseGood (port w .phase) (port w .args) s) → (t i : ℕ) → Leaves n m (deleteFile w t i)
+  pub delete-good : ((s : List ℕ) → PhaseGood (port w .line .phase) (port w .line .args) s) → (t i : ℕ) → Leaves n m (deleteFile w t i)
   unfolding deleteFile
   delete-good f t i =
       passes n m (leb 2 t) 20 _ (omega arith) (λ _. passes n m (not (hasFile (entries (w .store)) (t + 1) i)) 22 _ (omega arith) (λ h.
       let q = put-store p (deleted-good (p .store) (t + 1) i (not-false (hasFile (entries (w .store)) (t + 1) i) h)) (f (deleted (w .store) (t + 1) i)) in
       by-test (Parts n m) (eqb (t + 1) 1 && eqb i (port w .text .font)) _ _ (λ _. put-text q (font-good (p .port-good .text) 1 (omega arith))) (λ _. q)))
 
-  pub purge-good : ((s : List ℕ) → PhaseGood (port w .phase) (port w .args) s) → (a b : ℕ) → Leaves n m (purge w a b)
+  pub purge-good : ((s : List ℕ) → PhaseGood (port w .line .phase) (port w .line .args) s) → (a b : ℕ) → Leaves n m (purge w a b)
   unfolding purge
   purge-good f a b =
       passes n m (not (eqb a 89 && eqb b 33)) 20 _ (omega arith) (λ _.

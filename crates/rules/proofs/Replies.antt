@@ -161,14 +161,14 @@ unfolding byPhase alone code argument inlineData
 phase-brief Idle w b = by-test Brief (eqb b 254) _ _ (λ _. silent _) (λ _. character-brief w b)
 phase-brief Prefix w b = by-test Brief (eqb (argumentsOf (commandOf b)) 0) _ _ (λ _. obey-brief (commandOf b) [] (outside w)) (λ _. silent _)
 phase-brief (Gathering c g) w b =
-    brief-if (noBitmap w c g b) 22 _ (by-test Brief (ltb (g + 1) (argumentsOf (commandOf c))) _ _ (λ _. silent _) (λ _. obey-brief (commandOf c) (set (port w .args) g b) (outside w)))
+    brief-if (noBitmap w c g b) 22 _ (by-test Brief (ltb (g + 1) (argumentsOf (commandOf c))) _ _ (λ _. silent _) (λ _. obey-brief (commandOf c) (set (port w .line .args) g b) (outside w)))
 phase-brief (Inline x1 y1 x2 y2 came) w b = silent _
 phase-brief (Upload kind number size stored waiting byte) w b = data-brief w kind number size stored waiting byte b
 
 -- THE THEOREM, for a byte and for a piece
 pub replies-most : (w : World) (b : ℕ) → length (replies w b) ≤ 2
 unfolding replies
-replies-most w b = phase-brief (port w .phase) w b .most
+replies-most w b = phase-brief (port w .line .phase) w b .most
 
 pub succ : (n : ℕ) → suc n ≡ 1 + n
 succ n = omega arith

@@ -53,7 +53,7 @@ data-spares w g k n z s false c b h = spared-same (w .store)
 data-spares w g k n z s true c b h =
     by-test (λ (o : Outcome). Spared (w .store) (after w o .store)) (not (eqb b 1)) _ _ (λ _. spared-same (w .store)) (λ _. rw (lt-ltb (s + 1) z h) (spared-stored g s c))
 
-pub confirmed-spares : (w : World) (k n z s : ℕ) (v : Bool) (c b : ℕ) → Good w → port w .phase ≡ Upload k n z s v c → s + 1 < z → Spared (w .store) (step w b .store)
+pub confirmed-spares : (w : World) (k n z s : ℕ) (v : Bool) (c b : ℕ) → Good w → port w .line .phase ≡ Upload k n z s v c → s + 1 < z → Spared (w .store) (step w b .store)
 unfolding step byPhase
 confirmed-spares w k n z s v c b g e h =
     subst (λ (f : Phase). Spared (w .store) (after w (byPhase f w b) .store)) (sym e) (data-spares w (parts g .store) k n z s v c b h)
@@ -136,7 +136,7 @@ module _ {m : ℕ} (w : World) (good-store : StoreGood m (w .store)) (k n : ℕ)
   unfolding purge
   purge-stays a b h = rw h tt
 
-  confirmed-stays : (j i z s c : ℕ) → PhaseGood (Upload j i z s true c) (port w .args) (w .store) → Stays (w .store) (confirmed w j i z s c .store) k n
+  confirmed-stays : (j i z s c : ℕ) → PhaseGood (Upload j i z s true c) (port w .line .args) (w .store) → Stays (w .store) (confirmed w j i z s c .store) k n
   unfolding canonicalPhase canonicalUpload
   confirmed-stays j i z s c q =
       let e = and-both (isKind j) true (q .canonical) .0 in
@@ -146,7 +146,7 @@ module _ {m : ℕ} (w : World) (good-store : StoreGood m (w .store)) (k n : ℕ)
       by-test (λ (v : World). Stays (w .store) (v .store) k n) (ltb (s + 1) z) _ _ (λ _. a)
       (λ _. stays-then a (stays-appended t j i z e (f .2) (still-room good-store z s c (q .welcome .1)) k n (a .there)))
 
-  data-stays : (j i z s : ℕ) (v : Bool) (c b : ℕ) → PhaseGood (Upload j i z s v c) (port w .args) (w .store) → Keeps (uploadData w j i z s v c b)
+  data-stays : (j i z s : ℕ) (v : Bool) (c b : ℕ) → PhaseGood (Upload j i z s v c) (port w .line .args) (w .store) → Keeps (uploadData w j i z s v c b)
   unfolding uploadData
   data-stays j i z s false c b q = same
   data-stays j i z s true c b q = unless (not (eqb b 1)) 26 _ (λ _. confirmed-stays j i z s c q)
@@ -204,7 +204,7 @@ module _ {n m : ℕ} {w : World} (p : Parts n m w) (k i b : ℕ) (has : hasFile 
   obeyed : (c : Command) (a : List ℕ) → Harmless c a k i → Staying (w .store) k i (obey c a (outside w))
   obeyed c a h = commands (outside w) (p .store) k i has c a h
 
-  by-phase : (f : Phase) → port w .phase ≡ f → PhaseGood f (port w .args) (w .store) → Staying (w .store) k i (byPhase f w b)
+  by-phase : (f : Phase) → port w .line .phase ≡ f → PhaseGood f (port w .line .args) (w .store) → Staying (w .store) k i (byPhase f w b)
   unfolding byPhase alone code argument inlineData soundPhase
   by-phase Idle e q =
       by-test (Staying (w .store) k i) (eqb b 254) _ _ (λ _. same w (p .store) k i has) (λ _. character-stays w (p .store) k i has b)
@@ -214,7 +214,7 @@ module _ {n m : ℕ} {w : World} (p : Parts n m w) (k i b : ℕ) (has : hasFile 
       let l = argumentsOf (commandOf c) in
       unless w (p .store) k i has (noBitmap w c g b) 22 _ (λ _.
       by-test (Staying (w .store) k i) (ltb (g + 1) l) _ _ (λ _. same w (p .store) k i has)
-      (λ h. obeyed (commandOf c) (set (port w .args) g b) (spares c g e (omega (arith, ltb-false (g + 1) l h, ltb-true g l (q .sound))))))
+      (λ h. obeyed (commandOf c) (set (port w .line .args) g b) (spares c g e (omega (arith, ltb-false (g + 1) l h, ltb-true g l (q .sound))))))
   by-phase (Inline x1 y1 x2 y2 came) e q = same w (p .store) k i has
   by-phase (Upload kind number size stored waiting byte) e q = data-stays w (p .store) k i has kind number size stored waiting byte b q
 
@@ -226,4 +226,4 @@ module _ {n m : ℕ} {w : World} (p : Parts n m w) (k i b : ℕ) (has : hasFile 
 pub file-stays : (w : World) (b k n : ℕ) → Good w → hasFile (entries (w .store)) k n ≡ true → Spares w b k n → Stays (w .store) (step w b .store) k n
 unfolding step
 file-stays w b k n g has h =
-    let p = parts g in after-stays p k n b has h (outcome w b) (by-phase p k n b has h (port w .phase) refl (p .port-good .phase))
+    let p = parts g in after-stays p k n b has h (outcome w b) (by-phase p k n b has h (port w .line .phase) refl (p .port-good .phase))

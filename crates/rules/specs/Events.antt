@@ -99,7 +99,7 @@ meant Idle w b = cond (eqb b 254) quiet (characterEvent w b)
 meant Prefix w b = cond (eqb (argumentsOf (commandOf b)) 0) (meaning (commandOf b) [] w) quiet
 meant (Gathering code got) w b =
     cond (noBitmap w code got b) quiet
-    (cond (ltb (got + 1) (argumentsOf (commandOf code))) quiet (meaning (commandOf code) (set (port w .args) got b) w))
+    (cond (ltb (got + 1) (argumentsOf (commandOf code))) quiet (meaning (commandOf code) (set (port w .line .args) got b) w))
 meant (Inline x1 y1 x2 y2 came) w b = painted (rectangle x1 y1 x2 y2)
 meant (Upload kind number size stored waiting byte) w b = quiet
 
@@ -108,4 +108,4 @@ unlessRefused (done v r) e = e
 unlessRefused (refused n r) e = quiet
 
 unfoldable pub event : World → ℕ → Event
-event w b = unlessRefused (outcome w b) (meant (port w .phase) w b)
+event w b = unlessRefused (outcome w b) (meant (port w .line .phase) w b)

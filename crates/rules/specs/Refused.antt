@@ -13,7 +13,7 @@ pub record Unaltered (w v : World) (n : ℕ) : Type 0 where
   pub text : port v .text ≡ port w .text
   pub drawing : port v .drawing ≡ port w .drawing
   pub flow : port v .flow ≡ port w .flow
-  pub ended : port v .phase ≡ Idle
-  pub cleared : port v .args ≡ noArgs
+  pub ended : port v .line .phase ≡ Idle
+  pub cleared : port v .line .args ≡ noArgs
   pub counted : port v .refusals .count ≡ (port w .refusals .count + 1) % 65536
   pub last : port v .refusals .last ≡ n

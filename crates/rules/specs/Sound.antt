@@ -67,8 +67,8 @@ pub record RefusalsFit (r : Refusals) : Type 0 where
   pub last : r .last < 256
 
 pub record PortFits (p : Port) : Type 0 where
-  pub phase : PhaseFits (p .phase)
-  pub args : ArgsFit (p .args)
+  pub phase : PhaseFits (p .line .phase)
+  pub args : ArgsFit (p .line .args)
   pub text : TextFits (p .text)
   pub drawing : DrawingFits (p .drawing)
   pub flow : FlowFits (p .flow)
@@ -132,4 +132,4 @@ pub record Good (w : World) : Type 0 where
   pub panel-fits : PanelFits (panel w)
   pub store : StoreKeeps (w .store)
   pub framebuffer : FramebufferFits w
-  pub upload : Welcome (port w .phase) (w .store)
+  pub upload : Welcome (port w .line .phase) (w .store)

@@ -31,4 +31,4 @@ pub record Harmless (c : Command) (a : List ℕ) (k n : ℕ) : Type 0 where
 
 -- byte b does not end such a command
 abbrev pub Spares : World → ℕ → ℕ → ℕ → Type 0
-Spares w b k n = (c g : ℕ) → port w .phase ≡ Gathering c g → g + 1 ≡ argumentsOf (commandOf c) → Harmless (commandOf c) (set (port w .args) g b) k n
+Spares w b k n = (c g : ℕ) → port w .line .phase ≡ Gathering c g → g + 1 ≡ argumentsOf (commandOf c) → Harmless (commandOf c) (set (port w .line .args) g b) k n

@@ -74,8 +74,8 @@ noBitmap w code got b = eqb code 98 && eqb got 0 && not (hasFile (entries (w .st
 unfoldable pub argument : World → ℕ → ℕ → ℕ → Outcome
 argument w code got b =
     refuseIf (noBitmap w code got b) (foundNumber Nothing)
-    (cond (ltb (got + 1) (argumentsOf (commandOf code))) (quietly (withPort w (withPhase (port w) (Gathering code (got + 1)) (set (port w .args) got b))))
-    (obey (commandOf code) (set (port w .args) got b) (outside w)))
+    (cond (ltb (got + 1) (argumentsOf (commandOf code))) (quietly (withPort w (withPhase (port w) (Gathering code (got + 1)) (set (port w .line .args) got b))))
+    (obey (commandOf code) (set (port w .line .args) got b) (outside w)))
 
 -- 254 begins a command; any other byte is a character
 unfoldable pub alone : World → ℕ → Outcome
@@ -89,7 +89,7 @@ byPhase (Inline x1 y1 x2 y2 came) w b = inlineData w x1 y1 x2 y2 came b
 byPhase (Upload kind number size stored waiting byte) w b = uploadData w kind number size stored waiting byte b
 
 abbrev pub outcome : World → ℕ → Outcome
-outcome w b = byPhase (port w .phase) w b
+outcome w b = byPhase (port w .line .phase) w b
 
 -- A REFUSAL ends what was under way, is counted, from 65535 on to 0, and is the last one; it alters nothing else
 abbrev pub refusals : ℕ → ℕ → Refusals

@@ -47,7 +47,7 @@ abbrev pub canonicalArguments : Phase → List ℕ → Bool
 canonicalArguments p args = allZero (drop (gathered p) args)
 
 unfoldable pub canonicalPort : Port → Bool
-canonicalPort p = canonicalPhase (p .phase) && canonicalArguments (p .phase) (p .args)
+canonicalPort p = canonicalPhase (p .line .phase) && canonicalArguments (p .line .phase) (p .line .args)
 
 abbrev pub blank : Bar → Bool
 blank b = allZero (b .kind ∷ b .x1 ∷ b .y1 ∷ b .x2 ∷ b .y2 ∷ b .value ∷ [])

@@ -53,7 +53,7 @@ unfoldable pub soundText : Text → Bool
 soundText t = leb (t .x) 495 && leb (t .y) 255
 
 unfoldable pub soundPort : Port → Bool
-soundPort p = soundPhase (p .phase) && soundText (p .text)
+soundPort p = soundPhase (p .line .phase) && soundText (p .text)
 
 -- on the framebuffer, with x1 < x2 and y1 < y2
 abbrev pub soundCorners : ℕ → ℕ → ℕ → ℕ → ℕ → Bool

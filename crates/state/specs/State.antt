@@ -12,6 +12,7 @@ use Rattle.state.specs.declared.Phase.the-variants.{Idle}
 use Rattle.state.specs.declared.Text.{Text}
 use Rattle.state.specs.declared.Drawing.{Drawing}
 use Rattle.state.specs.declared.Refusals.{Refusals}
+use Rattle.state.specs.declared.Line.{Line}
 use Rattle.state.specs.declared.Port.{Port}
 use Rattle.state.specs.declared.BarSlot.{BarSlot}
 use Rattle.state.specs.declared.Strip.{Strip}
@@ -54,11 +55,13 @@ abbrev pub startText : ℕ → Text
 startText h =
     record { font = 1; x = 0; y = 0; left = 0; top = 0; «char_space» = 0; «line_space» = 1; «scroll_row» = h; wrap = true; scroll = true }
 
+abbrev pub lineOf : Phase → List ℕ → Line
+lineOf f l = record { phase = f; args = l }
+
 abbrev pub startPort : ℕ → Port
 startPort h =
     record {
-      phase = Idle;
-      args = noArgs;
+      line = lineOf Idle noArgs;
       text = startText h;
       drawing = record { colour = colour true; x = 0; y = 0 };
       flow = record { on = false; full = 0; empty = 0 };
@@ -84,23 +87,23 @@ startState h = state (startPort h) startPanel
 -- ---- parts put anew
 
 abbrev pub withPhase : Port → Phase → List ℕ → Port
-withPhase p ph l = record { phase = ph; args = l; text = p .text; drawing = p .drawing; flow = p .flow; refusals = p .refusals }
+withPhase p ph l = record { line = lineOf ph l; text = p .text; drawing = p .drawing; flow = p .flow; refusals = p .refusals }
 
 -- outside any command
 abbrev pub idle : Port → Port
 idle p = withPhase p Idle noArgs
 
 abbrev pub withText : Port → Text → Port
-withText p t = record { phase = p .phase; args = p .args; text = t; drawing = p .drawing; flow = p .flow; refusals = p .refusals }
+withText p t = record { line = p .line; text = t; drawing = p .drawing; flow = p .flow; refusals = p .refusals }
 
 abbrev pub withDrawing : Port → Drawing → Port
-withDrawing p d = record { phase = p .phase; args = p .args; text = p .text; drawing = d; flow = p .flow; refusals = p .refusals }
+withDrawing p d = record { line = p .line; text = p .text; drawing = d; flow = p .flow; refusals = p .refusals }
 
 abbrev pub withFlow : Port → Flow → Port
-withFlow p f = record { phase = p .phase; args = p .args; text = p .text; drawing = p .drawing; flow = f; refusals = p .refusals }
+withFlow p f = record { line = p .line; text = p .text; drawing = p .drawing; flow = f; refusals = p .refusals }
 
 abbrev pub withRefusals : Port → Refusals → Port
-withRefusals p r = record { phase = p .phase; args = p .args; text = p .text; drawing = p .drawing; flow = p .flow; refusals = r }
+withRefusals p r = record { line = p .line; text = p .text; drawing = p .drawing; flow = p .flow; refusals = r }
 
 abbrev pub withBars : Panel → List BarSlot → Panel
 withBars q l = record { bars = l; strips = q .strips; serial = q .serial; contrast = q .contrast; backlight = q .backlight }

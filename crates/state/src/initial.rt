@@ -4,6 +4,7 @@ use super::BARS;
 use super::Backlight;
 use super::BarSlot;
 use super::Drawing;
+use super::Line;
 use super::Panel;
 use super::Phase;
 use super::Port;
@@ -40,8 +41,10 @@ fn start_port(height: u8) -> Port
     ensures { λ r. ⌜ r ≡ startPort height ⌝ }
 {
     Port {
-        phase: Phase::Idle,
-        args: [0; ARGUMENTS],
+        line: Line {
+            phase: Phase::Idle,
+            args: [0; ARGUMENTS],
+        },
         text: start_text(height),
         drawing: Drawing {
             colour: Colour::BLACK,

@@ -191,9 +191,14 @@ pub struct Refusals {
     pub last: u8,
 }
 
-pub struct Port {
+// What the line is in the middle of, with the arguments gathered so far.
+pub struct Line {
     pub phase: Phase,
     pub args: [u8; ARGUMENTS],
+}
+
+pub struct Port {
+    pub line: Line,
     pub text: Text,
     pub drawing: Drawing,
     pub flow: Flow,

@@ -57,7 +57,7 @@ same-length-4 : tie.Need-same-length-4
 same-length-4 c = search needs
 
 returns-5 : tie.Need-returns-5
-returns-5 c = obeys-done _ (done-with (c .before .put-text .ensures) (c .done3 .ensures)) (λ p. refl) (λ g s p t. delete-chosen _ _ _ _ _ _ _ (search needs) (c .before .before .before .before .before .before .before .before .before .before .before .is-stored .ensures) (search needs) (c .before .before .before .before .before .before .before .before .delete .ensures .1) (search needs) (search needs))
+returns-5 c = obeys-done _ (done-with (c .before .put-text .ensures) (c .done3 .ensures)) (λ p. refl) (λ g s p t. delete-chosen _ _ _ _ _ _ _ (search needs) (c .before .before .before .before .before .before .before .before .before .before .before .is-stored .ensures) (c .before .before .before .before .before .before .before .before .before .before .if2 .left) (c .before .before .before .before .before .before .before .before .delete .ensures .1) (search needs) (search needs))
 
 pub delete-file-spec : {M : Type 1} → statement M
 delete-file-spec =
