@@ -17,20 +17,20 @@ use Rattle.state.specs.declared.Refusals.{Refusals}
 use Rattle.state.specs.declared.State.{State}
 use Rattle.state.specs.Soundness.{soundState}
 use Rattle.queue.specs.Record as queue-record
+use Rattle.queue.specs.Record.{Bytes}
 use Rattle.record.specs.Layout.{recordSize}
-use Rattle.record.specs.Fits.{Fits}
 use Rattle.record.specs.Reading.{decodeOf}
 use Rattle.record.specs.Writing.{encodeOf}
 use Rattle.record.specs.Record.{soundRecord}
 use Rattle.record.proofs.Bytes.{decoded-fits}
 use Rattle.record.proofs.Same.{both}
 use Rattle.record.proofs.Round.{decode-encode, encode-decode, encoded-sound, passed}
-use Rattle.rules.specs.World.{World, world, port}
+use Rattle.rules.specs.World.{World}
 use Rattle.rules.specs.Files.{inUse, lacksSpace}
 use Rattle.rules.specs.Step.{step}
 use Rattle.rules.specs.Calls.{run, taken}
 use Rattle.rules.specs.Chunks.{joined, EnoughAll}
-use Rattle.rules.specs.Sound.{Bytes, Welcome, Good}
+use Rattle.rules.specs.Sound.{Welcome}
 use Rattle.rules.proofs.ByByte.{demand-3}
 use Rattle.rules.proofs.Replies.{said-fits}
 use Rattle.rules.proofs.Counts.{refusal-count, last-refusal}
@@ -44,7 +44,6 @@ use Rattle.calls.specs.Bytes.{AllBytes, BytesInAll, ByteMemory}
 use Rattle.calls.specs.Served.{Served}
 use Rattle.calls.proofs.Inside.{bars-inside, consumed-bytes}
 use Rattle.calls.proofs.LineCalls.{emptied-sound}
-use Rattle.calls.proofs.Bridge.{fits, port-fits, panel-fits}
 use Rattle.calls.proofs.Lists.{take-bytes, both-true, good-run, fed-saved, streamed, consumed-whole}
 
 -- ---- worlds that every check passes
@@ -57,16 +56,13 @@ kept-step w b k h =
       store = rw (store-length w b (k .good) h) (k .store);
     }
 
-pub state-fits : (w : World) → Good w → Fits (w .state)
-state-fits w g = fits (w .state) (g .port-fits) (g .panel-fits)
-
 back : (w : World) → Kept w → decodeOf (encodeOf (w .state)) ≡ w .state
-back w k = decode-encode (w .state) (state-fits w (k .good))
+back w k = decode-encode (w .state) (k .good .fits)
 
 record-sound : (w : World) → Kept w → soundRecord framebufferRows (encodeOf (w .state)) ≡ true
 unfolding height
 record-sound w k =
-    encoded-sound framebufferRows (w .state) (state-fits w (k .good)) (subst (λ (n : ℕ). soundState (n / 30) (w .state) ≡ true) (k .framebuffer) (k .good .sound))
+    encoded-sound framebufferRows (w .state) (k .good .fits) (subst (λ (n : ℕ). soundState (n / 30) (w .state) ≡ true) (k .framebuffer) (k .good .sound))
     (k .good .thresholds) (k .good .canonical)
 
 both-false : (a b : Bool) → a ≡ false → b ≡ false → (a || b) ≡ false
@@ -150,15 +146,13 @@ pub checked-kept : (m : Memory) → ByteMemory m → checked m ≡ 0 → Kept (l
 unfolding height
 checked-kept m b e =
     let c = checks m e in
-    let f = decoded-fits (m .state) (b .state) in
     let p = passed framebufferRows (m .state) (c .state) in
     record {
       good = record {
         sound = subst (λ (n : ℕ). soundState (n / 30) (decodeOf (m .state)) ≡ true) (sym (c .framebuffer)) (p .sound);
         thresholds = p .thresholds;
         canonical = p .canonical;
-        port-fits = port-fits (decodeOf (m .state)) f;
-        panel-fits = panel-fits (decodeOf (m .state)) f;
+        fits = decoded-fits (m .state) (b .state);
         store = record { bytes = b .store; valid = c .valid };
         framebuffer = record { bytes = b .framebuffer; low = omega (arith, c .framebuffer) };
         upload = passes-welcome (decodeOf (m .state) .port .line .phase) (m .store) (c .upload);
@@ -178,8 +172,8 @@ served-saved w q cs k h =
     let d = back w k in
     let l = consumedAll (board (saved w) q) cs in
     let v = run w l in
-    let z = k .good .panel-fits .sixteen in
-    let c = k .good .port-fits .refusals .count in
+    let z = k .good .fits .panel .sixteen in
+    let c = k .good .fits .port .refusals .count in
     let e = ap (λ (m : Memory). decodeOf (m .state) .port .refusals) (s .left) ∙ ap (λ (t : State). t .port .refusals) (back v (s .kept)) in
     record {
       stream = rw d (s .left);

@@ -1,6 +1,5 @@
 pub mod Examples
 pub mod LineCalls
 pub mod Lists
-pub mod Bridge
 pub mod Inside
 pub mod Demands

@@ -2,7 +2,7 @@
 -- Assumes nothing.
 use mathlib.Core.List.{List, [], _∷_}
 use Prim.Native.Nat.{ℕ, _<_}
-use Rattle.rules.specs.Sound.{Bytes}
+use Rattle.queue.specs.Record.{Bytes}
 use Rattle.calls.specs.Memory.{Memory}
 use Rattle.calls.specs.List.{Call, feeds, arrives, takes}
 

@@ -24,7 +24,7 @@ use Rattle.outcome.specs.declared.Reply.{Reply}
 use Rattle.outcome.specs.Outcome.{sentBy}
 use Rattle.outcome.specs.Contract.{Held, worldOf, Came}
 use Rattle.calls.specs.Memory.{framebufferRows, Kept}
-use Rattle.calls.proofs.Demands.{kept-step, state-fits}
+use Rattle.calls.proofs.Demands.{kept-step}
 use Rattle.display.specs.Running.{Written, Ran}
 
 -- ---- a reply written
@@ -154,10 +154,10 @@ pub stepped : (m n : Held) (b : ℕ) (l : List ℕ) → Kept (worldOf m) → b <
 unfolding step replies
 stepped m n b l k small written came =
     let v : World = step (worldOf m) b in
-    let f = state-fits v (kept-step (worldOf m) b k small .good) .panel-fits in
+    let f = kept-step (worldOf m) b k small .good .fits .panel in
     let e : n .panel-bytes ≡ panelBytes (v .state .panel) =
-    ap (λ (x : Held). x .panel-bytes) (came .next) ∙ revised-whole (m .panel-bytes) (v .state .panel) (written .again) (f .bars-size) (f .strips-size) in
-    let q : panelOf (n .panel-bytes) ≡ v .state .panel = ap panelOf e ∙ panel-back (v .state .panel) (f .bars-size) (f .strips-size) in
+    ap (λ (x : Held). x .panel-bytes) (came .next) ∙ revised-whole (m .panel-bytes) (v .state .panel) (written .again) (f .sixteen) (f .eight) in
+    let q : panelOf (n .panel-bytes) ≡ v .state .panel = ap panelOf e ∙ panel-back (v .state .panel) (f .sixteen) (f .eight) in
     record {
       next = ap (λ (x : Held). world (x .framebuffer) (x .store) (state (x .port) (panelOf (n .panel-bytes)))) (came .next) ∙ ap (λ (y : Panel). world (v .framebuffer) (v .store) (state (v .state .port) y)) q;
       sends = came .sends;

@@ -3,7 +3,7 @@
 use mathlib.Core.Path.{_≡_, _∙_, refl, sym, ap, subst}
 use mathlib.Core.List.{List, [], _∷_, _++_, append-nil}
 use mathlib.Core.Bool.{Bool, true, false, cond, not, _||_}
-use Prim.Native.Nat.{ℕ, _+_, _-_, _<_, _≤_}
+use Prim.Native.Nat.{ℕ, _-_, _<_, _≤_}
 use native.Mathlib.Omega.{arith}
 use native.Mathlib.Nat.{zero-add}
 use lib.Dec.{eqb, leb}
@@ -23,11 +23,11 @@ use Rattle.state.specs.declared.Phase.the-variants.{Upload}
 use Rattle.state.specs.declared.Port.{Port}
 use Rattle.state.specs.declared.State.{State}
 use Rattle.state.specs.State.{state, startState}
+use Rattle.state.specs.Fits.{Fits}
 use Rattle.record.specs.Layout.{phaseAt, panelAt, recordSize}
 use Rattle.record.specs.Reading.{portOf, panelOf, decodeOf}
 use Rattle.record.specs.Writing.{portBytes, panelBytes, encodeOf, over}
 use Rattle.record.specs.Record.{encodedIn, soundRecord}
-use Rattle.record.specs.Fits.{Fits}
 use Rattle.record.proofs.Bytes.{decoded-fits}
 use Rattle.record.proofs.Overwriting.{over-front}
 use Rattle.record.proofs.Round.{passed}
@@ -164,7 +164,7 @@ decoded st t e = rw e
 
 encoded-panel : (z : State) → Fits z → drop panelAt (encodeOf z) ≡ panelBytes (z .panel)
 unfolding encodeOf
-encoded-panel z f = drop-at (portBytes (z .port)) (panelBytes (z .panel)) 43 (length-port (z .port) (f .port-fits .args-size))
+encoded-panel z f = drop-at (portBytes (z .port)) (panelBytes (z .panel)) 43 (length-port (z .port) (f .port .args .six))
 
 -- what memory that passes the checks holds
 pub ready : (g s st : List ℕ) (t : Port) (u : Bool) → ((i : ℕ) → getD g i 0 < 256) → ((i : ℕ) → getD s i 0 < 256) → ((i : ℕ) → getD st i 0 < 256)

@@ -13,12 +13,12 @@ use Rattle.bar_graph.specs.Bars.{rectangleOf, Shows}
 use Rattle.bar_ledger.specs.Claim.{ledgerAt, Agrees}
 use Rattle.bar_ledger.specs.Since.{SinceZero}
 use Rattle.bar_ledger.proofs.Since.{since-zero}
+use Rattle.queue.specs.Record.{Bytes}
 use Rattle.state.specs.State.{barAt}
 use Rattle.rules.specs.World.{World, panel}
 use Rattle.rules.specs.Step.{step}
 use Rattle.rules.specs.Calls.{run}
 use Rattle.rules.specs.Events.{view, event}
-use Rattle.rules.specs.Sound.{Bytes}
 use Rattle.calls.specs.Memory.{Memory, checked, loaded}
 use Rattle.calls.specs.Start.{Started, startChecked, startOf, startWorld, emptied}
 use Rattle.calls.specs.List.{Board, board}

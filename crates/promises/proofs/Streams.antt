@@ -4,9 +4,9 @@
 use mathlib.Core.Path.{_≡_, _∙_, sym, ap}
 use mathlib.Core.List.{List}
 use Prim.Native.Nat.{ℕ}
+use Rattle.queue.specs.Record.{Bytes}
 use Rattle.rules.specs.Calls.{run, said}
 use Rattle.rules.specs.Chunks.{joined, EnoughAll}
-use Rattle.rules.specs.Sound.{Bytes}
 use Rattle.calls.specs.Memory.{Memory, checked, loaded, saved}
 use Rattle.calls.specs.Start.{Started, startChecked, startOf, startWorld}
 use Rattle.calls.specs.List.{Board, board, chunksIn, consumedAll}

@@ -1,12 +1,12 @@
 -- A record and its state are one thing, both ways, and a record is accepted exactly when it is that of a sound, canonical state.
 -- Assumes nothing.
-use mathlib.Core.Path.{_≡_, refl, sym, ap, _∙_}
+use mathlib.Core.Path.{_≡_, sym, ap, _∙_}
 use mathlib.Core.Logic.{_↔_}
 use mathlib.Core.Bool.{true, _&&_}
 use mathlib.Core.List.{List}
-use Prim.Native.Nat.{ℕ, zero, suc, _+_, _*_, _<_}
-use lib.Dec.{eqb, lit<}
-use lib.ListN.{length, drop, replicate}
+use Prim.Native.Nat.{ℕ, _+_, _*_, _<_}
+use lib.Dec.{eqb}
+use lib.ListN.{length, drop}
 use lib.Seq.{getD-drop}
 use borrow.Author.Tests.{eq-eqb, eqb-true}
 use Rattle.queue.specs.Record.{at, Bytes}
@@ -14,22 +14,22 @@ use Rattle.queue.specs.declared.Flow.{Flow}
 use Rattle.state.specs.declared.Refusals.{Refusals}
 use Rattle.state.specs.declared.Panel.{Panel}
 use Rattle.state.specs.declared.State.{State}
-use Rattle.state.specs.State.{noBar, noStrip, startState}
+use Rattle.state.specs.State.{startState}
 use Rattle.state.specs.Soundness.{soundState, thresholdsFit}
 use Rattle.state.specs.Canonical.{canonicalState}
-use Rattle.state.proofs.Start.{start-sound, start-thresholds, start-canonical}
+use Rattle.state.specs.Fits.{Fits}
+use Rattle.state.proofs.Start.{start-sound, start-thresholds, start-canonical, start-fits}
 use Rattle.record.specs.Layout.{flowAt, flowFullAt, flowEmptyAt, refusalsAt, lastRefusalAt, panelAt, contrastAt, backlightAt, minutesAt}
 use Rattle.record.specs.Reading.{pairAt, flagAt, portOf, panelOf, decodeOf}
 use Rattle.record.specs.Writing.{encodeOf}
 use Rattle.record.specs.Record.{encodedIn, sameBytes, soundRecord}
-use Rattle.record.specs.Fits.{All, FitsSlot, FitsStrip, Fits}
 use Rattle.record.proofs.Same.{both, same-refl, same-equal}
 use Rattle.record.proofs.Whole.{Sized, length-sized, written-whole}
 use Rattle.record.proofs.Back.{phase-read, arguments-read, text-read, drawing-read, flow-read, refusals-read, panel-read}
 use Rattle.record.proofs.Bytes.{decoded-fits, encoded-bytes}
 
 pub sized : (s : State) → Fits s → Sized s
-sized s f = record { args = f .port-fits .args-size; bars = f .panel-fits .bars-size; strips = f .panel-fits .strips-size }
+sized s f = record { args = f .port .args .six; bars = f .panel .sixteen; strips = f .panel .eight }
 
 -- ---- what is written
 
@@ -111,38 +111,6 @@ sound-exactly h r b = (
 )
 
 -- ---- the start, and what a board shows
-
-blank-bars : (n : ℕ) → All FitsSlot (replicate n noBar)
-blank-bars zero = tt
-blank-bars (suc n) = ((lit< tt, (lit< tt, (lit< tt, (lit< tt, (lit< tt, (lit< tt, tt)))))), blank-bars n)
-
-blank-strips : (n : ℕ) → All FitsStrip (replicate n noStrip)
-blank-strips zero = tt
-blank-strips (suc n) = ((lit< tt, (lit< tt, (lit< tt, (lit< tt, tt)))), blank-strips n)
-
-pub start-fits : (h : ℕ) → h < 256 → Fits (startState h)
-start-fits h l =
-    let z : 0 < 256 = lit< tt in
-    let o : 1 < 256 = lit< tt in
-    record {
-      port-fits =
-          record {
-            phase-fits = tt;
-            args-size = refl;
-            args-fit = (z, (z, (z, (z, (z, (z, tt))))));
-            text-fits = record { x-fits = lit< tt; others = (o, (z, (z, (z, (z, (o, (l, tt))))))) };
-            count-fits = lit< tt;
-            others = (z, (z, (z, (z, (z, tt)))));
-          };
-      panel-fits =
-          record {
-            bars-size = refl;
-            bars-fit = blank-bars 16;
-            strips-size = refl;
-            strips-fit = blank-strips 8;
-            others = (z, (z, (lit< tt, (z, tt))));
-          };
-    }
 
 pub start-record : (h : ℕ) → h < 256 → soundRecord h (encodeOf (startState h)) ≡ true
 start-record h l = encoded-sound h (startState h) (start-fits h l) (start-sound h) (start-thresholds h) (start-canonical h)

@@ -10,7 +10,7 @@ use Rattle.queue.specs.Record.{at}
 use Rattle.state.specs.declared.State.{State}
 use Rattle.record.specs.Writing.{encodeOf}
 use Rattle.record.specs.Record.{encodedIn}
-use Rattle.record.specs.Fits.{Fits}
+use Rattle.state.specs.Fits.{Fits}
 use Rattle.record.proofs.Round.{length-encode}
 
 module _ (s : State) (g : List ℕ) (f : Fits s) where

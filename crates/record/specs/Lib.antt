@@ -3,4 +3,3 @@ pub mod Reading
 pub mod Writing
 pub mod Parts
 pub mod Record
-pub mod Fits

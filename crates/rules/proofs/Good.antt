@@ -11,6 +11,7 @@ use borrow.Author.Tests.{leb-true, ltb-true, le-leb, lt-ltb}
 use Rattle.pixels.specs.Framebuffer.{height}
 use Rattle.pixels.proofs.Tests.{by-test}
 use Rattle.queue.specs.declared.Flow.{Flow}
+use Rattle.queue.specs.Record.{Bytes}
 use Rattle.directory.specs.Directory.{validOf}
 use Rattle.file_laws.proofs.Written.{and-both}
 use Rattle.state.specs.declared.Phase.{Phase}
@@ -25,8 +26,9 @@ use Rattle.state.specs.declared.Panel.{Panel}
 use Rattle.state.specs.State.{noBar, noStrip, withPhase, withDrawing, withFlow, withRefusals, withBars, withStrips}
 use Rattle.state.specs.Soundness.{every, soundPhase, soundText, soundPort, soundBar, soundStrip, soundPanel, soundState, thresholdsFit}
 use Rattle.state.specs.Canonical.{canonicalPhase, canonicalArguments, canonicalPort, canonicalBar, canonicalStrip, canonicalSerial, canonicalPanel, canonicalState}
+use Rattle.state.specs.Fits.{PhaseFits, ArgsFit, TextFits, DrawingFits, FlowFits, RefusalsFit, PortFits, BarFits, StripFits, SerialFits, PanelFits}
 use Rattle.rules.specs.World.{World, rows, port, panel, withFramebuffer, withStore, withPort, withPanel, putText, Outcome, done, refused, refuseIf}
-use Rattle.rules.specs.Sound.{Bytes, PhaseFits, ArgsFit, TextFits, DrawingFits, FlowFits, RefusalsFit, PortFits, BarFits, StripFits, SerialFits, PanelFits, Welcome, Good}
+use Rattle.rules.specs.Sound.{Welcome, Good}
 
 -- ---- the parts
 
@@ -131,8 +133,8 @@ parts {w} g =
     let s = and-both _ _ (g .sound) in
     let k = and-both _ _ (g .canonical) in
     record {
-      port-good = port-parts (port w) (w .store) (s .0) (g .thresholds) (k .0) (g .port-fits) (g .upload);
-      panel-good = panel-parts (rows w) (panel w) (s .1) (k .1) (g .panel-fits);
+      port-good = port-parts (port w) (w .store) (s .0) (g .thresholds) (k .0) (g .fits .port) (g .upload);
+      panel-good = panel-parts (rows w) (panel w) (s .1) (k .1) (g .fits .panel);
       store = record { bytes = g .store .bytes; valid = g .store .valid; long = refl };
       framebuffer = record { bytes = g .framebuffer .bytes; long = refl };
       low = g .framebuffer .low;
@@ -169,8 +171,10 @@ good {n} {m} {w} p =
       sound = rw (rows-are p, port-sound q) (panel-sound r);
       thresholds = lt-ltb (port w .flow .full + port w .flow .empty) 80 (q .flow .sum);
       canonical = rw (port-canonical q) (panel-canonical r);
-      port-fits = record { phase = q .phase .fits; args = q .phase .args; text = q .text .fits; drawing = q .drawing; flow = q .flow .fits; refusals = q .refusals };
-      panel-fits = record { sixteen = r .bars .long; bars = r .bars .fits; eight = r .strips .long; strips = r .strips .fits; serial = r .serial .fits; contrast = r .contrast; minutes = r .minutes };
+      fits = record {
+        port = record { phase = q .phase .fits; args = q .phase .args; text = q .text .fits; drawing = q .drawing; flow = q .flow .fits; refusals = q .refusals };
+        panel = record { sixteen = r .bars .long; bars = r .bars .fits; eight = r .strips .long; strips = r .strips .fits; serial = r .serial .fits; contrast = r .contrast; minutes = r .minutes };
+      };
       store = record { bytes = p .store .bytes; valid = p .store .valid };
       framebuffer = record { bytes = p .framebuffer .bytes; low = rw (rows-are p) (p .low) };
       upload = q .phase .welcome;

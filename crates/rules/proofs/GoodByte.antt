@@ -1,35 +1,38 @@
 -- EVERY BYTE KEEPS A GOOD WORLD GOOD, the start is good, and framebuffer and store stay as long as they are.
 -- Assumes nothing.
-use mathlib.Core.Path.{_≡_, refl}
+use mathlib.Core.Path.{_≡_, refl, sym, subst}
 use mathlib.Core.Bool.{true, false}
 use mathlib.Core.List.{List, [], _∷_}
-use Prim.Native.Nat.{ℕ, zero, suc, _+_, _*_, _/_, _≤_, _<_}
+use Prim.Native.Nat.{ℕ, suc, _+_, _*_, _≤_, _<_}
 use native.Mathlib.Omega.{arith}
 use lib.Dec.{eqb, ltb}
-use lib.ListN.{length, getD, set, replicate}
+use lib.ListN.{length, set}
 use borrow.Author.Tests.{ltb-true, lt-ltb, eqb-false}
+use Rattle.pixels.specs.Framebuffer.{height}
 use Rattle.pixels.proofs.Tests.{by-test}
 use Rattle.bar_ledger.proofs.Keep.{keeps-out}
 use Rattle.directory.specs.Directory.{validOf}
+use Rattle.queue.specs.Record.{Bytes}
 use Rattle.state.specs.declared.Command.{Command}
 use Rattle.state.specs.declared.Command.the-variants.{Unknown, Clear, Home, SetPoint, SetPlace, WrapOn, WrapOff, ScrollOn, ScrollOff, ChooseFont, SetMetrics, SetColour, DrawPixel, DrawLine, ContinueLine, DrawFrame, FillRectangle, SetUpBar, WriteBar, SetUpStrip, ShiftStrip, ShowBitmap, DrawInline, UploadFont, UploadBitmap, DeleteFile, Purge, FlowOn, FlowOff, SetContrast, BacklightOn, BacklightOff, SetSerial}
 use Rattle.state.specs.declared.Phase.{Phase}
 use Rattle.state.specs.declared.Phase.the-variants.{Idle, Prefix, Gathering, Inline, Upload}
-use Rattle.state.specs.State.{noBar, noStrip, startState, startPanel}
-use Rattle.state.specs.Soundness.{every, soundPhase, soundBar, soundStrip}
-use Rattle.state.specs.Canonical.{canonicalPhase, canonicalBar, canonicalStrip, canonicalSerial}
+use Rattle.state.specs.State.{startState}
+use Rattle.state.specs.Soundness.{soundPhase, soundState}
+use Rattle.state.specs.Canonical.{canonicalPhase}
 use Rattle.state.specs.Commands.{commandOf, argumentsOf}
+use Rattle.state.proofs.Start.{start-sound, start-thresholds, start-canonical, start-fits}
 use Rattle.rules.specs.World.{World, world, port, Outcome, done, refused, arg}
 use Rattle.rules.specs.Step.{obey, outside, code, noBitmap, argument, alone, byPhase, outcome, refuse, after, step}
 use Rattle.rules.specs.Calls.{run}
 use Rattle.rules.specs.Events.{view, event}
-use Rattle.rules.specs.Sound.{Bytes, BarFits, StripFits, Good}
+use Rattle.rules.specs.Sound.{Good}
 use Rattle.rules.proofs.ByByte.{byte-steps}
-use Rattle.rules.proofs.Good.{PhaseGood, PanelGood, Parts, parts, good, put-text, put-refusals, put-phase, Leaves, passes}
+use Rattle.rules.proofs.Good.{PhaseGood, Parts, parts, good, put-text, put-refusals, put-phase, Leaves, passes}
 use Rattle.rules.proofs.GoodLists.{bytes-none, bytes-set, args-set, zeros-set}
 use Rattle.rules.proofs.GoodText.{at-point, home-good, wrap-good, scroll-good, metrics-good, choose-good, place-good, character-good}
 use Rattle.rules.proofs.GoodCommands.{clear-good, colour-good, pixel-good, line-good, frame-good, solid-good, set-up-good, write-good, strip-good, shift-good, bitmap-good, flow-on-good, flow-off-good, contrast-good, backlight-on-good, backlight-off-good, serial-good}
-use Rattle.rules.proofs.GoodPhases.{settled, idle-good, start-text, corners-good, inline-good, upload-good, data-good, delete-good, purge-good}
+use Rattle.rules.proofs.GoodPhases.{settled, idle-good, corners-good, inline-good, upload-good, data-good, delete-good, purge-good}
 
 -- at most six arguments
 six-most : (c : Command) → argumentsOf c ≤ 6
@@ -169,40 +172,23 @@ good-run w (b ∷ l) g h = good-run (step w b) l (good-step w b g (h 0)) (λ i. 
 -- ---- lengths
 
 pub framebuffer-length : (w : World) (b : ℕ) → Good w → length (step w b .framebuffer) ≡ length (w .framebuffer)
-framebuffer-length w b g = keeps-out (event w b) (view w) (view (step w b)) (byte-steps w b (g .panel-fits .sixteen) .obeys) .long
+framebuffer-length w b g = keeps-out (event w b) (view w) (view (step w b)) (byte-steps w b (g .fits .panel .sixteen) .obeys) .long
 
 pub store-length : (w : World) (b : ℕ) → Good w → b < 256 → length (step w b .store) ≡ length (w .store)
 store-length w b g h = parts-step (parts g) b h .store .long
 
 -- ---- the start
 
-nothing-set-up : (h : ℕ) → PanelGood h startPanel
-unfolding every soundBar soundStrip canonicalBar canonicalStrip canonicalSerial
-nothing-set-up h =
-    record {
-      bars = record { sound = refl; canonical = refl; long = refl; fits = λ i. no-bars 16 i };
-      strips = record { sound = refl; canonical = refl; long = refl; fits = λ i. no-strips 8 i };
-      serial = record { canonical = refl; fits = omega arith };
-      contrast = omega arith;
-      minutes = omega arith;
-    }
-  where
-    no-bars : (k i : ℕ) → BarFits (getD (replicate k noBar) i noBar)
-    no-bars zero i = omega arith
-    no-bars (suc k) zero = omega arith
-    no-bars (suc k) (suc i) = no-bars k i
-
-    no-strips : (k i : ℕ) → StripFits (getD (replicate k noStrip) i noStrip)
-    no-strips zero i = omega arith
-    no-strips (suc k) zero = omega arith
-    no-strips (suc k) (suc i) = no-strips k i
-
 pub good-start : (h : ℕ) (g s : List ℕ) → length g ≡ 30 * h → h < 256 → Bytes g → Bytes s → validOf s ≡ true → Good (world g s (startState h))
+unfolding height
 good-start h g s e l b c v =
-    good {n = 30 * h} {m = length s} (record {
-      port-good = record { phase = idle-good s; text = start-text h l; drawing = omega arith; flow = omega arith; refusals = omega arith };
-      panel-good = nothing-set-up (30 * h / 30);
-      store = record { bytes = c; valid = v; long = refl };
-      framebuffer = record { bytes = b; long = e };
-      low = omega arith;
-    })
+    let r : height g ≡ h = omega (arith, e) in
+    record {
+      sound = subst (λ (n : ℕ). soundState n (startState h) ≡ true) (sym r) (start-sound h);
+      thresholds = start-thresholds h;
+      canonical = start-canonical h;
+      fits = start-fits h l;
+      store = record { bytes = c; valid = v };
+      framebuffer = record { bytes = b; low = rw r l };
+      upload = tt;
+    }

@@ -21,13 +21,13 @@ use Rattle.state.specs.declared.BarSlot.{BarSlot}
 use Rattle.state.specs.State.{barOf, barSlot, noBar, barAt, strip, stripAt}
 use Rattle.state.specs.Soundness.{soundBar, soundStrip, soundCorners, soundSetUp}
 use Rattle.state.specs.Canonical.{canonicalBar, canonicalStrip, canonicalSerial}
+use Rattle.state.specs.Fits.{BarFits}
 use Rattle.state.proofs.Every.{every-at}
 use Rattle.rules.specs.World.{World, rows, panel}
 use Rattle.rules.specs.Drawing.{ordered, clear, setColour, drawPixel, drawLine, drawFrame, fillRectangle}
 use Rattle.rules.specs.Bars.{inBounds, apart, setUpBar, writeBar, setUpStrip, shiftStrip}
 use Rattle.rules.specs.Pictures.{bitmapIn, bitmapAt, showBitmap}
 use Rattle.rules.specs.Settings.{flowOn, flowOff, setContrast, backlightOn, backlightOff, setSerial}
-use Rattle.rules.specs.Sound.{BarFits}
 use Rattle.rules.proofs.Good.{FramebufferGood, Parts, rows-are, put-panel, put-framebuffer, put-text, put-drawing, put-flow, put-bars, put-strips, Leaves, passes}
 use Rattle.rules.proofs.GoodLists.{bars-good, strips-good}
 use Rattle.rules.proofs.GoodText.{painted-good, home-good}

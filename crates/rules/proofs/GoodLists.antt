@@ -7,13 +7,15 @@ use Prim.Native.Nat.{ℕ, zero, suc, _+_, _<_}
 use native.Mathlib.Omega.{arith}
 use lib.ListN.{getD, set, take, drop, replicate, length-set}
 use lib.Seq.{paste, drop-set-lt, drop-drop}
+use Rattle.queue.specs.Record.{Bytes}
 use Rattle.state.specs.declared.BarSlot.{BarSlot}
 use Rattle.state.specs.declared.Strip.{Strip}
 use Rattle.state.specs.State.{noArgs, noBar, noStrip}
 use Rattle.state.specs.Soundness.{soundBar, soundStrip}
 use Rattle.state.specs.Canonical.{isZero, allZero, canonicalBar, canonicalStrip}
+use Rattle.state.specs.Fits.{ArgsFit, BarFits, StripFits}
 use Rattle.state.proofs.Every.{every-set, every-tail}
-use Rattle.rules.specs.Sound.{Bytes, ArgsFit, BarFits, StripFits}
+use Rattle.state.proofs.Start.{all-replicate}
 use Rattle.rules.proofs.Good.{BarsGood, StripsGood}
 
 -- what holds of every element and of a new one holds of every element afterwards
@@ -51,8 +53,7 @@ bytes-drop (suc n) [] b = bytes-none
 bytes-drop (suc n) (a ∷ l) b = bytes-drop n l (λ i. b (suc i))
 
 pub bytes-zeros : (n : ℕ) → Bytes (replicate n 0)
-bytes-zeros zero = bytes-none
-bytes-zeros (suc n) = bytes-cons 0 (replicate n 0) (omega arith) (bytes-zeros n)
+bytes-zeros n = all-replicate (λ x. x < 256) 0 (omega arith) n
 
 pub bytes-paste : (d : List ℕ) (at : ℕ) (s : List ℕ) (n : ℕ) → Bytes d → Bytes s → Bytes (paste d at s n)
 bytes-paste d at s n b c =

@@ -20,11 +20,12 @@ use Rattle.state.specs.declared.Phase.the-variants.{Idle, Inline, Upload}
 use Rattle.state.specs.State.{noArgs, startText}
 use Rattle.state.specs.Soundness.{every, inlineBytes, soundPhase, soundInline}
 use Rattle.state.specs.Canonical.{gathered, canonicalUpload, canonicalPhase}
+use Rattle.state.specs.Fits.{PhaseFits}
 use Rattle.rules.specs.World.{World, rows, port}
 use Rattle.rules.specs.Drawing.{ordered}
 use Rattle.rules.specs.Pictures.{beginInline, inlineData}
 use Rattle.rules.specs.Files.{inUse, lacksSpace, beginUpload, confirmed, uploadData, deleteFile, purge}
-use Rattle.rules.specs.Sound.{PhaseFits, Welcome}
+use Rattle.rules.specs.Sound.{Welcome}
 use Rattle.rules.proofs.Good.{PhaseGood, TextGood, StoreGood, Parts, rows-are, put-framebuffer, put-text, put-phase, put-store, put-both, Leaves, passes}
 use Rattle.rules.proofs.GoodLists.{no-args}
 use Rattle.rules.proofs.GoodStore.{isKind, room, stored-good, appended-good, deleted-good, purged-good}
@@ -61,7 +62,7 @@ still-fresh {m} {s} g k n j c h = rw (entries-stored s (g .bytes) (g .valid) j c
 pub still-room : {m : ℕ} {s : List ℕ} → StoreGood m s → (z j c : ℕ) → lacksSpace s z ≡ false → lacksSpace (storedByte s j c) z ≡ false
 still-room {m} {s} g z j c h = rw (entries-stored s (g .bytes) (g .valid) j c, length-set s (256 + sizesIn (entries s) + j) c) h
 
-pub start-text : (h : ℕ) → h < 256 → TextGood (startText h)
+start-text : (h : ℕ) → h < 256 → TextGood (startText h)
 start-text h k = omega arith
 
 module _ {n m : ℕ} {w : World} (p : Parts n m w) where

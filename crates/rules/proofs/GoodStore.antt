@@ -22,8 +22,8 @@ use Rattle.file_laws.proofs.Delete.{split, sizes-cut}
 use Rattle.file_laws.proofs.Kept.{all-left, short}
 use Rattle.file_laws.proofs.Rules.{valid-less, valid-more, valid-none, room-for-one}
 use Rattle.file_laws.proofs.Meaning.{long-enough, append-means, delete-means, purge-means, valid-stored}
+use Rattle.queue.specs.Record.{Bytes}
 use Rattle.rules.specs.Files.{inUse, lacksSpace}
-use Rattle.rules.specs.Sound.{Bytes}
 use Rattle.rules.proofs.Good.{StoreGood}
 use Rattle.rules.proofs.GoodLists.{bytes-set, bytes-none, bytes-cons, bytes-drop, bytes-zeros, bytes-paste}
 

@@ -19,11 +19,11 @@ use Rattle.opened_font.specs.declared.Glyph.{Glyph}
 use Rattle.opened_font.specs.declared.Glyph.the-variants
 use Rattle.opened_font.specs.Glyphs.{glyphOf}
 use Rattle.file_laws.proofs.Written.{and-both}
+use Rattle.queue.specs.Record.{Bytes}
 use Rattle.state.specs.declared.Text.{Text}
 use Rattle.rules.specs.World.{World, rows, port}
 use Rattle.rules.specs.Fonts.{Opened, opened, shut, openedAt, openFont}
 use Rattle.rules.specs.Text.{atPoint, home, withFont, withWrap, withScroll, withMetrics, placeX, placeY, Place, place, nowhere, wrapped, fitted, movedUp, glyphAt, glyphOn, characterIn, character, fontChosen, chooseFont, placeIn, setPlace}
-use Rattle.rules.specs.Sound.{Bytes}
 use Rattle.rules.proofs.Good.{TextGood, FramebufferGood, Parts, rows-are, put-framebuffer, put-text, Leaves, passes}
 
 -- ---- the framebuffer: every painter makes bytes, as many as there were

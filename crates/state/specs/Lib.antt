@@ -2,3 +2,4 @@ pub mod Commands
 pub mod State
 pub mod Soundness
 pub mod Canonical
+pub mod Fits
