@@ -11,7 +11,7 @@ use state::Port;
 ghost use mathlib.Core.Path.{_≡_};
 ghost use Rattle.state.specs.State.{withDrawing};
 ghost use Rattle.rules.specs.Drawing.{clear, setColour, drawPixel, drawLine, ordered, drawFrame, fillRectangle};
-ghost use Rattle.outcome.specs.Contract.{unlent, lent, untold, told, Obeys};
+ghost use Rattle.outcome.specs.Contract.{unlent, lent, untold, Obeys};
 
 fn with_drawing(port: Port, drawing: Drawing) -> Port
     ensures { λ r. ⌜ r ≡ withDrawing port drawing ⌝ }

@@ -17,7 +17,6 @@ use state::BARS;
 use state::Port;
 use state::STRIPS;
 ghost use mathlib.Core.Path.{_≡_};
-ghost use mathlib.Core.Bool.{true};
 ghost use Prim.Native.Nat.{_<_};
 ghost use Rattle.rules.specs.Bars.{apart, setUpBar, writeBar, setUpStrip, shiftStrip};
 ghost use Rattle.outcome.specs.Contract.{unlent, lent, untold, told, Obeys};

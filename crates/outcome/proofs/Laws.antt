@@ -16,7 +16,7 @@ use Rattle.rules.specs.Step.{refusals, after, sent, refuse}
 use Rattle.outcome.specs.declared.Outcome.{Outcome}
 use Rattle.outcome.specs.declared.Reply.{Reply}
 use Rattle.outcome.specs.Outcome.{sentBy, inPhaseOf, refusedPort, refusedOf, doneOf, sendingOf, oneByte, twoBytes}
-use Rattle.outcome.specs.Contract.{Loan, found, left, Told, True, Held, held, heldBy, worldOf, Came, Obeys}
+use Rattle.outcome.specs.Contract.{Loan, found, left, Told, True, Held, held, heldBy, Came, Obeys}
 
 pub refuse-is : (p t : Port) (n c : ℕ) → t ≡ inPhaseOf p Idle → c ≡ (p .refusals .count + 1) % 65536 → withRefusals t (refusals c n) ≡ refusedPort p n
 unfolding refusedPort

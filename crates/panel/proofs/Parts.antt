@@ -1,14 +1,14 @@
 -- Where a part of the panel stands in its bytes: what is read there, and what is written there.
 -- Assumes nothing.
 use mathlib.Core.Path.{_≡_, refl, sym, ap, _∙_}
-use mathlib.Core.Bool.{Bool, true, false, cond}
+use mathlib.Core.Bool.{Bool, true, false}
 use mathlib.Core.List.{List, [], _∷_, _++_}
 use Prim.Native.Nat.{ℕ, zero, suc, _+_, _*_, _<_, _≤_}
 use native.Mathlib.Omega.{arith}
 use native.Mathlib.Nat.{mul-zero, mul-suc}
 use lib.Dec.{eqb}
-use lib.ListN.{length, getD, drop, take, set, length-set, length-append, List·getD-append}
-use lib.Seq.{set-append-left, getD-append-add, getD-drop, take-all, drop-at, set-out}
+use lib.ListN.{length, getD, drop, set, length-set, length-append, List·getD-append}
+use lib.Seq.{set-append-left, getD-append-add, getD-drop, take-all, drop-at}
 use borrow.Author.Tests.{eqb-true}
 use Rattle.bar_graph.specs.declared.Bar.{Bar}
 use Rattle.queue.specs.Record.{at, bit}
@@ -22,7 +22,7 @@ use Rattle.record.proofs.Overwriting.{over-front, length-manyBytes}
 use Rattle.record.proofs.Whole.{length-panel}
 use Rattle.record.proofs.Filling.{length-many, many-at}
 use Rattle.panel.specs.Revised.{merged, revised, serial, backlight}
-use Rattle.panel.proofs.Merging.{Writable, merged-over, merged-same}
+use Rattle.panel.proofs.Merging.{Writable, merged-over}
 
 -- ---- bytes written into one of two lists
 

@@ -23,7 +23,7 @@ use state::Phase;
 use state::Port;
 use state::inline_bytes;
 ghost use Rattle.rules.specs.Pictures.{bitmapIn, showBitmap, beginInline, inlineData};
-ghost use Rattle.outcome.specs.Contract.{unlent, lent, untold, told, Obeys};
+ghost use Rattle.outcome.specs.Contract.{unlent, lent, untold, Obeys};
 
 // A bitmap from its file, its upper left corner at (x, y).
 fn show_file(framebuffer: &mut [u8], port: Port, file: &[u8], x: u8, y: u8) -> Outcome

@@ -12,7 +12,7 @@ ghost use mathlib.Core.Path.{_≡_};
 ghost use Prim.Native.Nat.{_<_};
 ghost use Rattle.state.specs.State.{withFlow};
 ghost use Rattle.rules.specs.Settings.{flowOn, flowOff, setContrast, backlightOn, backlightOff, setSerial};
-ghost use Rattle.outcome.specs.Contract.{unlent, lent, untold, told, Obeys};
+ghost use Rattle.outcome.specs.Contract.{unlent, lent, untold, Obeys};
 
 fn wide(x: u8) -> usize
     ensures { λ r. ⌜ (r ≡ x) × (r < 256) ⌝ }
