@@ -19,7 +19,7 @@ typedef struct {
 // The goal of a call that has one in instructions.
 enum { COUNTED = 0 };
 
-static uint8_t glass[DISPLAY_FRAMEBUFFER_SIZE];
+static uint8_t glass[DISPLAY_LOW_FRAMEBUFFER_SIZE];
 
 static Repeated *repeated(int side, const uint8_t *command, size_t length)
 {
@@ -70,14 +70,14 @@ static void loop_pixels(const void *what, unsigned long times)
 {
     const bool *black = what;
     while (times-- > 0)
-        pixel_painters.fill(glass, 0, 0, DISPLAY_WIDTH - 1, DISPLAY_HEIGHT - 1, *black);
+        pixel_painters.fill(glass, 0, 0, DISPLAY_WIDTH - 1, DISPLAY_LOW_HEIGHT - 1, *black);
 }
 
 static void loop_bytes(const void *what, unsigned long times)
 {
     const bool *black = what;
     while (times-- > 0)
-        byte_painters.fill(glass, 0, 0, DISPLAY_WIDTH - 1, DISPLAY_HEIGHT - 1, *black);
+        byte_painters.fill(glass, 0, 0, DISPLAY_WIDTH - 1, DISPLAY_LOW_HEIGHT - 1, *black);
 }
 
 // In another file, so that no call is left out.
@@ -108,7 +108,7 @@ static void print_row(const char *name, double ours, const char *other, double t
 // Every way must leave the same picture, or it is not worth timing.
 static void check_fill(const char *name, const Repeated *r, bool black)
 {
-    unsigned pixels = black ? DISPLAY_WIDTH * DISPLAY_HEIGHT : 0;
+    unsigned pixels = black ? DISPLAY_WIDTH * DISPLAY_LOW_HEIGHT : 0;
     feed_repeated(r, 1);
     loop_pixels(&black, 1);
     if (pixman)
@@ -172,7 +172,7 @@ static void print_overheads(double shortest)
 void print_filling(double shortest)
 {
     Repeated *clear = REPEATED(OURS, COMMAND, CLEAR);
-    Repeated *solid = REPEATED(OURS, COMMAND, RECTANGLE, 1, 0, 0, DISPLAY_WIDTH - 1, DISPLAY_HEIGHT - 1);
+    Repeated *solid = REPEATED(OURS, COMMAND, RECTANGLE, 1, 0, 0, DISPLAY_WIDTH - 1, DISPLAY_LOW_HEIGHT - 1);
     int i;
     for (i = 0; i < SIDES; i++)
         sides[i].start();

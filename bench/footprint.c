@@ -40,7 +40,7 @@ static void nothing(void)
 
 static void start(void)
 {
-    display_start(our_glass, DISPLAY_FRAMEBUFFER_SIZE, our_store, DISPLAY_STORE_MOST, our_state,
+    display_start(DISPLAY_LOW_HEIGHT, our_glass, DISPLAY_LOW_FRAMEBUFFER_SIZE, our_store, DISPLAY_STORE_MOST, our_state,
                   DISPLAY_STATE_RECORD_SIZE, our_queue, DISPLAY_QUEUE_RECORD_SIZE);
 }
 
@@ -48,7 +48,7 @@ static void feed_all(const Stream *s)
 {
     static uint8_t replies[2 * sizeof s->bytes];
     display_length consumed, replied;
-    display_feed(our_glass, DISPLAY_FRAMEBUFFER_SIZE, our_store, DISPLAY_STORE_MOST, our_state,
+    display_feed(our_glass, DISPLAY_LOW_FRAMEBUFFER_SIZE, our_store, DISPLAY_STORE_MOST, our_state,
                  DISPLAY_STATE_RECORD_SIZE, s->bytes, s->length, replies, sizeof replies, &consumed, &replied);
 }
 

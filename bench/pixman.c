@@ -11,17 +11,17 @@
 // Rows of whole 32-bit words, as pixman wants them.
 enum { WORDS = 8 };
 
-static uint32_t surface[WORDS * DISPLAY_HEIGHT];
+static uint32_t surface[WORDS * DISPLAY_LOW_HEIGHT];
 
 static void fill(int black)
 {
-    pixman_fill(surface, WORDS, 1, 0, 0, DISPLAY_WIDTH, DISPLAY_HEIGHT, (uint32_t)black);
+    pixman_fill(surface, WORDS, 1, 0, 0, DISPLAY_WIDTH, DISPLAY_LOW_HEIGHT, (uint32_t)black);
 }
 
 static unsigned black_pixels(void)
 {
     unsigned i, count = 0;
-    for (i = 0; i < 32 * WORDS * DISPLAY_HEIGHT; i++)
+    for (i = 0; i < 32 * WORDS * DISPLAY_LOW_HEIGHT; i++)
         count += surface[i / 32] >> i % 32 & 1;
     return count;
 }

@@ -16,7 +16,7 @@ void plain_start(Plain *p, const Painters *paint, const uint8_t *font)
     p->paint = paint;
     p->font = font;
     p->line_space = 1;
-    p->scroll_row = DISPLAY_HEIGHT;
+    p->scroll_row = DISPLAY_LOW_HEIGHT;
     p->wrap = p->scroll = p->black = true;
 }
 
@@ -44,7 +44,7 @@ static bool find_place(const Plain *p, unsigned width, unsigned height, unsigned
         else
             *y = p->top;
     }
-    return *x + width <= DISPLAY_WIDTH && *y + height <= DISPLAY_HEIGHT;
+    return *x + width <= DISPLAY_WIDTH && *y + height <= DISPLAY_LOW_HEIGHT;
 }
 
 static void take_character(Plain *p, uint8_t character)
@@ -93,8 +93,8 @@ static void rectangle(Plain *p, const uint8_t *a, bool solid)
 // Why a graph may not have these corners; 0 where it may.
 static uint8_t graph_refused(const uint8_t *corners)
 {
-    if (corners[0] >= DISPLAY_WIDTH || corners[2] >= DISPLAY_WIDTH || corners[1] >= DISPLAY_HEIGHT ||
-        corners[3] >= DISPLAY_HEIGHT)
+    if (corners[0] >= DISPLAY_WIDTH || corners[2] >= DISPLAY_WIDTH || corners[1] >= DISPLAY_LOW_HEIGHT ||
+        corners[3] >= DISPLAY_LOW_HEIGHT)
         return DISPLAY_REFUSED_OUT_OF_BOUNDS;
     return corners[0] < corners[2] && corners[1] < corners[3] ? 0 : DISPLAY_REFUSED_CORNERS_OUT_OF_ORDER;
 }

@@ -28,7 +28,7 @@ extern const Painters pixel_painters, byte_painters;
 static inline void set_pixel(uint8_t *glass, unsigned x, unsigned y, bool black)
 {
     uint8_t mask = (uint8_t)(0x80 >> x % 8);
-    if (x >= DISPLAY_WIDTH || y >= DISPLAY_HEIGHT)
+    if (x >= DISPLAY_WIDTH || y >= DISPLAY_LOW_HEIGHT)
         return;
     if (black)
         glass[y * DISPLAY_STRIDE + x / 8] |= mask;
@@ -63,7 +63,7 @@ typedef struct {
 typedef enum { IDLE, PREFIX, ARGUMENTS, IN_LINE, UPLOAD } Phase;
 
 typedef struct {
-    uint8_t glass[DISPLAY_FRAMEBUFFER_SIZE];
+    uint8_t glass[DISPLAY_LOW_FRAMEBUFFER_SIZE];
     const Painters *paint;
     const uint8_t *font;
     Phase phase;

@@ -27,7 +27,7 @@ static void fill(uint8_t *glass, unsigned x1, unsigned y1, unsigned x2, unsigned
         return;
     if (x2 >= DISPLAY_WIDTH)
         x2 = DISPLAY_WIDTH - 1;
-    for (y = y1; y <= y2 && y < DISPLAY_HEIGHT; y++) {
+    for (y = y1; y <= y2 && y < DISPLAY_LOW_HEIGHT; y++) {
         first = glass + y * DISPLAY_STRIDE + x1 / 8;
         last = glass + y * DISPLAY_STRIDE + x2 / 8;
         if (first == last) {
@@ -75,7 +75,7 @@ static void row(uint8_t *glass, unsigned x, unsigned y, unsigned count, uint8_t 
 {
     uint8_t *at, mask = (uint8_t)(0xFF << (8 - count));
     unsigned aside = x % 8;
-    if (x >= DISPLAY_WIDTH || y >= DISPLAY_HEIGHT)
+    if (x >= DISPLAY_WIDTH || y >= DISPLAY_LOW_HEIGHT)
         return;
     at = glass + y * DISPLAY_STRIDE + x / 8;
     stamp(at, (uint8_t)(mask >> aside), (uint8_t)(byte >> aside));

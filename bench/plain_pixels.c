@@ -74,12 +74,12 @@ void draw_line(uint8_t *glass, int x1, int y1, int x2, int y2, bool black)
 
 void clear_glass(uint8_t *glass)
 {
-    memset(glass, 0, DISPLAY_FRAMEBUFFER_SIZE);
+    memset(glass, 0, DISPLAY_LOW_FRAMEBUFFER_SIZE);
 }
 
 void scroll_glass(uint8_t *glass, unsigned rows)
 {
-    size_t moved = (rows < DISPLAY_HEIGHT ? rows : DISPLAY_HEIGHT) * DISPLAY_STRIDE;
-    memmove(glass, glass + moved, DISPLAY_FRAMEBUFFER_SIZE - moved);
-    memset(glass + DISPLAY_FRAMEBUFFER_SIZE - moved, 0, moved);
+    size_t moved = (rows < DISPLAY_LOW_HEIGHT ? rows : DISPLAY_LOW_HEIGHT) * DISPLAY_STRIDE;
+    memmove(glass, glass + moved, DISPLAY_LOW_FRAMEBUFFER_SIZE - moved);
+    memset(glass + DISPLAY_LOW_FRAMEBUFFER_SIZE - moved, 0, moved);
 }

@@ -18,7 +18,7 @@ uint8_t reference_queue(Board *board, uint8_t byte);
 void reference_glass(const Board *board, uint8_t *glass);
 void reference_font(uint8_t *font);
 
-uint8_t our_glass[DISPLAY_FRAMEBUFFER_SIZE], our_store[DISPLAY_STORE_MOST], our_state[DISPLAY_STATE_RECORD_SIZE];
+uint8_t our_glass[DISPLAY_LOW_FRAMEBUFFER_SIZE], our_store[DISPLAY_STORE_MOST], our_state[DISPLAY_STATE_RECORD_SIZE];
 uint8_t our_queue[DISPLAY_QUEUE_RECORD_SIZE];
 static Board *board;
 static Plain by_pixels, by_bytes;
@@ -34,9 +34,11 @@ static void expect_obeyed(const char *side, int obeyed)
 
 static void our_start(void)
 {
+    uint32_t answer;
     memset(our_store, 0, sizeof our_store);
-    expect_obeyed(sides[OURS].name, display_start(our_glass, sizeof our_glass, our_store, sizeof our_store, our_state,
-                                                  sizeof our_state, our_queue, sizeof our_queue) == DISPLAY_OK);
+    answer = display_start(DISPLAY_LOW_HEIGHT, our_glass, sizeof our_glass, our_store, sizeof our_store, our_state,
+                           sizeof our_state, our_queue, sizeof our_queue);
+    expect_obeyed(sides[OURS].name, answer == DISPLAY_OK);
 }
 
 static size_t our_feed(const uint8_t *piece, size_t length, uint8_t *replies)
@@ -68,7 +70,7 @@ static size_t independent_feed(const uint8_t *piece, size_t length, uint8_t *rep
 
 static const uint8_t *independent_glass(void)
 {
-    static uint8_t glass[DISPLAY_FRAMEBUFFER_SIZE];
+    static uint8_t glass[DISPLAY_LOW_FRAMEBUFFER_SIZE];
     reference_glass(board, glass);
     return glass;
 }
@@ -152,7 +154,7 @@ static void compare_piece(const char *name, const uint8_t *piece, size_t length)
     int i;
     for (i = OURS + 1; i < SIDES; i++) {
         if (sides[i].feed(piece, length, theirs) != replied || memcmp(ours, theirs, replied) != 0 ||
-            memcmp(our_glass, sides[i].glass(), DISPLAY_FRAMEBUFFER_SIZE) != 0) {
+            memcmp(our_glass, sides[i].glass(), DISPLAY_LOW_FRAMEBUFFER_SIZE) != 0) {
             fprintf(stderr, "bench: %s: %s differs from the library\n", name, sides[i].name);
             exit(1);
         }

@@ -1,5 +1,5 @@
 // What is timed side by side, behind one form: the library, the independent implementation, and the plain C in its two
-// forms. Each side keeps one display with an empty store of the greatest size.
+// forms. Each side keeps one display, of the low glass, with an empty store of the greatest size.
 #ifndef SIDES_H
 #define SIDES_H
 

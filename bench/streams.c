@@ -70,13 +70,13 @@ static void rectangles(Stream *s)
         uint8_t x = pick(180), y = pick(40), right = (uint8_t)(x + pick(60)), bottom = (uint8_t)(y + pick(40));
         PUT(s, COMMAND, i % 2 == 0 ? FRAME : RECTANGLE, (uint8_t)(i / 2 % 2), x, y, right, bottom);
     }
-    PUT(s, COMMAND, RECTANGLE, 1, 0, 0, DISPLAY_WIDTH - 1, DISPLAY_HEIGHT - 1);
-    PUT(s, COMMAND, RECTANGLE, 0, 0, 0, DISPLAY_WIDTH - 1, DISPLAY_HEIGHT - 1);
+    PUT(s, COMMAND, RECTANGLE, 1, 0, 0, DISPLAY_WIDTH - 1, DISPLAY_LOW_HEIGHT - 1);
+    PUT(s, COMMAND, RECTANGLE, 0, 0, 0, DISPLAY_WIDTH - 1, DISPLAY_LOW_HEIGHT - 1);
 }
 
 static void point(Stream *s)
 {
-    uint8_t x = pick(DISPLAY_WIDTH), y = pick(DISPLAY_HEIGHT);
+    uint8_t x = pick(DISPLAY_WIDTH), y = pick(DISPLAY_LOW_HEIGHT);
     PUT(s, x, y);
 }
 
@@ -157,7 +157,7 @@ static void inline_bitmap(Stream *s, uint8_t x, uint8_t y, uint8_t width, uint8_
 static void inline_bitmaps(Stream *s)
 {
     unsigned i;
-    inline_bitmap(s, 0, 0, DISPLAY_WIDTH, DISPLAY_HEIGHT);
+    inline_bitmap(s, 0, 0, DISPLAY_WIDTH, DISPLAY_LOW_HEIGHT);
     for (i = 0; i < 8; i++) {
         uint8_t x = pick(200), y = pick(40), width = (uint8_t)(9 + pick(30)), height = (uint8_t)(4 + pick(20));
         inline_bitmap(s, x, y, width, height);

@@ -5,7 +5,7 @@
 #include <string.h>
 
 enum { GAP = 16, ALIGNMENTS = 8, MOST_REPLIES = 2 * sizeof((Stream *)0)->bytes, GARBAGE = 0xA5 };
-enum { SMALL = DISPLAY_STATE_RECORD_SIZE + DISPLAY_QUEUE_RECORD_SIZE + DISPLAY_FRAMEBUFFER_SIZE };
+enum { SMALL = DISPLAY_STATE_RECORD_SIZE + DISPLAY_QUEUE_RECORD_SIZE + DISPLAY_TALL_FRAMEBUFFER_SIZE };
 
 static uint8_t memory[SMALL + MOST_REPLIES + DISPLAY_STORE_MOST + (SLICES + 1) * (GAP + ALIGNMENTS)];
 static uint8_t saved_memory[sizeof memory];
@@ -24,19 +24,21 @@ typedef struct {
 } Outputs;
 enum { BYTE = 2, SIGNAL = 5 };
 
-void place_memory(size_t store_length, size_t replies_length)
+void place_memory(unsigned height, size_t store_length, size_t replies_length)
 {
-    size_t lengths[SLICES] = {DISPLAY_STATE_RECORD_SIZE, DISPLAY_QUEUE_RECORD_SIZE, DISPLAY_FRAMEBUFFER_SIZE};
+    size_t lengths[SLICES] = {DISPLAY_STATE_RECORD_SIZE, DISPLAY_QUEUE_RECORD_SIZE, DISPLAY_TALL_FRAMEBUFFER_SIZE};
     size_t at = 0, i;
     lengths[REPLIES] = replies_length;
-    lengths[STORE] = store_length;
+    lengths[STORE] = DISPLAY_STORE_MOST;
     for (i = 0; i < SLICES; i++) {
         at += GAP + below(ALIGNMENTS);
         lent[i].bytes = memory + at;
         lent[i].length = lengths[i];
         at += lengths[i];
     }
-    used = at - store_length + DISPLAY_STORE_MOST + GAP;
+    lent[SCREEN].length = height * DISPLAY_STRIDE;
+    lent[STORE].length = store_length;
+    used = at + GAP;
     for (i = 0; i < used; i++)
         memory[i] = (uint8_t)(GARBAGE + 37 * i);
     memset(lent[STORE].bytes, 0, DISPLAY_DIRECTORY_SIZE);
@@ -108,11 +110,11 @@ static uint8_t *pointer(unsigned slice)
 }
 #define LENT(slice) pointer(slice), lent[slice].length
 
-uint32_t call_start(void)
+uint32_t call_start(uint32_t height)
 {
     Outputs none;
     memset(&none, GARBAGE, sizeof none);
-    return note(START, display_start(LENT(SCREEN), LENT(STORE), LENT(STATE), LENT(QUEUE)), &none, STORE);
+    return note(START, display_start(height, LENT(SCREEN), LENT(STORE), LENT(STATE), LENT(QUEUE)), &none, STORE);
 }
 
 uint32_t call_feed(const uint8_t *piece, size_t length, size_t room, size_t *consumed)

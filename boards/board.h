@@ -16,9 +16,9 @@ typedef struct {
 
 extern Slice lent[SLICES];
 
-// A new place for each slice, with garbage in it, and an empty directory. Behind the store there is room for it to be
-// lent as long as a store may be.
-void place_memory(size_t store_length, size_t replies_length);
+// A new place for each slice, with garbage in it, and an empty directory. Behind screen and store there is room for
+// them to be lent as long as they may be.
+void place_memory(unsigned height, size_t store_length, size_t replies_length);
 
 // Memory as it was when it was saved; slices stay where they are.
 void save_memory(void);
@@ -26,7 +26,7 @@ void restore_memory(void);
 
 // The calls. Each goes into the hash: its answer, its outputs and what stands beside them, and the memory afterwards.
 enum { START, FEED, ARRIVE, TAKE, CALL_KINDS };
-uint32_t call_start(void);
+uint32_t call_start(uint32_t height);
 uint32_t call_feed(const uint8_t *piece, size_t length, size_t room, size_t *consumed);
 uint32_t call_arrive(uint8_t byte);
 uint32_t call_take(uint8_t *byte);

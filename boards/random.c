@@ -4,6 +4,7 @@
 #include "display.h"
 
 static uint64_t seed;
+static unsigned rows; // of the screen
 
 void set_seed(uint32_t number)
 {
@@ -20,7 +21,8 @@ unsigned below(unsigned limit)
 
 uint8_t any_byte(void)
 {
-    static const uint8_t edges[] = {0, 1, 7, 8, 29, 30, 39, 40, 63, 64, 79, 80, 127, 128, 238, 239, 240, 241, 254, 255};
+    static const uint8_t edges[] = {0, 1, 7, 8, 29, 30, 39, 40, 63, 64, 65, 79, 80, 126, 127, 128, 129, 238, 239, 240,
+                                    241, 254, 255};
     unsigned kind = below(8);
     if (kind < 4)
         return (uint8_t)below(8);
@@ -59,19 +61,25 @@ static void upload_bitmap(Stream *s)
     any_bytes(s, 2);
 }
 
-// A few characters from a digit or a letter on, each with a width of its own.
+// A few characters from a digit or a letter on, each with a width of its own. One font in four is about as high as a
+// screen, and one pixel wide.
 static void upload_font(Stream *s)
 {
-    enum { MOST = 6, HEADER = 4 + 3 * MOST, GLYPH = 16 };
+    enum { MOST = 6, HEADER = 4 + 3 * MOST, GLYPH = 17 };
+    static const uint8_t heights[] = {63, 64, 65, 127, 128, 129};
     uint8_t file[HEADER + MOST * GLYPH], number = (uint8_t)below(6);
     unsigned i, count = 1 + below(MOST), height = 1 + below(12), first = below(2) > 0 ? '0' : 'A';
-    unsigned size = 4 + 3 * count;
+    unsigned size = 4 + 3 * count, widest = 8;
+    if (below(4) == 0) {
+        height = heights[below(sizeof heights)];
+        widest = 1;
+    }
     file[0] = (uint8_t)(1 + below(12));
     file[1] = (uint8_t)height;
     file[2] = (uint8_t)first;
     file[3] = (uint8_t)(first + count - 1);
     for (i = 0; i < count; i++) {
-        unsigned width = 1 + below(8), end = size + (width * height + 7) / 8;
+        unsigned width = 1 + below(widest), end = size + (width * height + 7) / 8;
         file[4 + 3 * i] = 0;
         file[5 + 3 * i] = (uint8_t)size;
         file[6 + 3 * i] = (uint8_t)width;
@@ -85,15 +93,15 @@ static void upload_font(Stream *s)
 // Corners on the screen and in their order.
 static void corners(Stream *s)
 {
-    unsigned x = below(DISPLAY_WIDTH - 1), y = below(DISPLAY_HEIGHT - 1);
-    unsigned right = x + 1 + below(DISPLAY_WIDTH - 1 - x), bottom = y + 1 + below(DISPLAY_HEIGHT - 1 - y);
+    unsigned x = below(DISPLAY_WIDTH - 1), y = below(rows - 1);
+    unsigned right = x + 1 + below(DISPLAY_WIDTH - 1 - x), bottom = y + 1 + below(rows - 1 - y);
     PUT(s, (uint8_t)x, (uint8_t)y, (uint8_t)right, (uint8_t)bottom);
 }
 
 // Partly beyond the screen now and then.
 static void inline_bitmap(Stream *s)
 {
-    unsigned x = below(250), y = below(70), right = x + below(256 - x > 20 ? 20 : 256 - x), bottom = y + below(8);
+    unsigned x = below(250), y = below(rows + 6), right = x + below(256 - x > 20 ? 20 : 256 - x), bottom = y + below(8);
     unsigned count = ((right - x) / 8 + 1) * (bottom - y + 1);
     PUT(s, COMMAND, INLINE_BITMAP, (uint8_t)x, (uint8_t)y, (uint8_t)right, (uint8_t)bottom);
     any_bytes(s, count);
@@ -150,8 +158,9 @@ static void any_command(Stream *s)
         any_bytes(s, command[1]);
 }
 
-void random_stream(Stream *s, size_t length)
+void random_stream(Stream *s, size_t length, unsigned height)
 {
+    rows = height;
     s->length = 0;
     while (s->length < length) {
         unsigned kind = below(16);

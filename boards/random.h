@@ -9,11 +9,11 @@ void set_seed(uint32_t number);
 // At most once in an expression, so that the order is fixed too.
 unsigned below(unsigned limit);
 
-// Any byte, most often a small one or one at an edge of screen and types.
+// Any byte, most often a small one or one at an edge of screens and types.
 uint8_t any_byte(void);
 
-// At least `length` bytes of commands, characters, uploads and noise. Most is obeyed, and every refusal is met now and
-// then.
-void random_stream(Stream *s, size_t length);
+// At least `length` bytes of commands, characters, uploads and noise for a screen of so many rows. Most is obeyed, and
+// every refusal is met now and then.
+void random_stream(Stream *s, size_t length, unsigned height);
 
 #endif

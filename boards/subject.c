@@ -4,7 +4,7 @@
 #include <stdlib.h>
 #include <string.h>
 
-static uint8_t screen[DISPLAY_FRAMEBUFFER_SIZE], store[DISPLAY_STORE_MOST], queue[DISPLAY_QUEUE_RECORD_SIZE];
+static uint8_t screen[DISPLAY_LOW_FRAMEBUFFER_SIZE], store[DISPLAY_STORE_MOST], queue[DISPLAY_QUEUE_RECORD_SIZE];
 static uint8_t replies[2 * sizeof((Stream *)0)->bytes];
 uint8_t state[DISPLAY_STATE_RECORD_SIZE];
 
@@ -19,7 +19,8 @@ static void expect_ok(uint32_t answer)
 void start(void)
 {
     memset(store, 0, sizeof store);
-    expect_ok(display_start(screen, sizeof screen, store, sizeof store, state, sizeof state, queue, sizeof queue));
+    expect_ok(display_start(DISPLAY_LOW_HEIGHT, screen, sizeof screen, store, sizeof store, state, sizeof state, queue,
+                            sizeof queue));
 }
 
 void feed(const uint8_t *piece, size_t length)

@@ -1,4 +1,5 @@
-// The display that is measured, with an empty store of the greatest size. A call that is refused ends the program.
+// The display that is measured: the low glass, with an empty store of the greatest size. A call that is refused ends
+// the program.
 #ifndef SUBJECT_H
 #define SUBJECT_H
 

@@ -13,6 +13,7 @@
 enum { SHORT = 400, LONG = 1200, ROOM = 256 };
 
 static Stream stream;
+static unsigned height; // of the screen that the stream is for
 
 static size_t less(size_t a, size_t b)
 {
@@ -30,8 +31,8 @@ static void fresh(size_t replies)
     size_t length = DISPLAY_STORE_LEAST;
     if (below(4) == 0)
         length += below(below(4) > 0 ? 2048 : DISPLAY_STORE_MOST - DISPLAY_STORE_LEAST + 1);
-    place_memory(length, replies);
-    call_start();
+    place_memory(height, length, replies);
+    call_start(height);
 }
 
 // In one piece, with room for all replies.
@@ -74,8 +75,13 @@ static void feed_queued(void)
     }
 }
 
-// A length that is not the right one. What is not refused by its length alone is really there: store lengths within
-// bounds. A length whose low half is right must not pass for it.
+static unsigned other_height(void)
+{
+    return height == DISPLAY_LOW_HEIGHT ? DISPLAY_TALL_HEIGHT : DISPLAY_LOW_HEIGHT;
+}
+
+// A length that is not the right one. What is not refused by its length alone is really there: screens of either
+// height, store lengths within bounds. A length whose low half is right must not pass for it.
 static void damage_length(void)
 {
     unsigned slice = below(4) == 0 ? STORE : below(REPLIES);
@@ -112,6 +118,19 @@ static void damage_byte(uint8_t *byte)
         *byte = any_byte();
 }
 
+// The record's height and the screen's length, or one of them: those of the other screen. Now and then a height that
+// there is not.
+static void damage_height(void)
+{
+    unsigned kind = below(4);
+    if (kind < 2)
+        lent[SCREEN].length = other_height() * DISPLAY_STRIDE;
+    if (kind == 0 || kind == 2)
+        lent[STATE].bytes[DISPLAY_STATE_HEIGHT] = (uint8_t)other_height();
+    if (kind == 3)
+        damage_byte(lent[STATE].bytes + DISPLAY_STATE_HEIGHT);
+}
+
 // Records of the directory are four bytes: kind, number, size.
 static void damage_directory(void)
 {
@@ -143,7 +162,7 @@ static void fill_counts(void)
 
 static void damage(void)
 {
-    switch (below(10)) {
+    switch (below(12)) {
     case 0:
     case 1:
         damage_byte(lent[STATE].bytes + below(DISPLAY_STATE_RECORD_SIZE));
@@ -165,9 +184,23 @@ static void damage(void)
     case 8:
         fill_counts();
         break;
+    case 9:
+    case 10:
+        damage_height();
+        break;
     default:
         damage_length();
     }
+}
+
+// Mostly one that there is.
+static uint32_t any_height(void)
+{
+    static const uint32_t unknown[] = {0, 1, 63, 65, 127, 129, 192, 255, 256, 320, 384, 65600, 0x80000040, UINT32_MAX};
+    unsigned kind = below(8);
+    if (kind < 4)
+        return height;
+    return kind < 7 ? other_height() : unknown[below(sizeof unknown / sizeof *unknown)];
 }
 
 static void any_call(const uint8_t *piece, size_t length)
@@ -176,7 +209,7 @@ static void any_call(const uint8_t *piece, size_t length)
     size_t part = less(below(30), length), room = any_room(), consumed;
     switch (below(8)) {
     case 0:
-        call_start();
+        call_start(any_height());
         break;
     case 1:
         call_arrive(any_byte());
@@ -206,10 +239,12 @@ static void feed_damaged(void)
     }
 }
 
+// Four streams for the one screen, then four for the other.
 static const char *run_stream(unsigned long number)
 {
+    height = number / 4 % 2 == 0 ? DISPLAY_LOW_HEIGHT : DISPLAY_TALL_HEIGHT;
     set_seed((uint32_t)number);
-    random_stream(&stream, number % 4 == 0 ? LONG : SHORT);
+    random_stream(&stream, number % 4 == 0 ? LONG : SHORT, height);
     switch (number % 4) {
     case 0:
         feed_whole();
@@ -254,8 +289,8 @@ int main(void)
         before = calls;
         begin_hash();
         plan = run_stream(number);
-        printf("%lu %s: %lu calls, %08lx%08lx\n", number, plan, calls - before, (unsigned long)(hash >> 32),
-               (unsigned long)(hash & 0xFFFFFFFFu));
+        printf("%lu %s, %u rows: %lu calls, %08lx%08lx\n", number, plan, height, calls - before,
+               (unsigned long)(hash >> 32), (unsigned long)(hash & 0xFFFFFFFFu));
     }
     if (is_complete())
         return 0;

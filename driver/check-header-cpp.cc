@@ -6,9 +6,11 @@
 #define IS_UNSIGNED(number) static_assert(std::is_same<decltype(number), unsigned>::value, #number)
 
 IS_UNSIGNED(DISPLAY_WIDTH);
-IS_UNSIGNED(DISPLAY_HEIGHT);
+IS_UNSIGNED(DISPLAY_LOW_HEIGHT);
+IS_UNSIGNED(DISPLAY_TALL_HEIGHT);
 IS_UNSIGNED(DISPLAY_STRIDE);
-IS_UNSIGNED(DISPLAY_FRAMEBUFFER_SIZE);
+IS_UNSIGNED(DISPLAY_LOW_FRAMEBUFFER_SIZE);
+IS_UNSIGNED(DISPLAY_TALL_FRAMEBUFFER_SIZE);
 IS_UNSIGNED(DISPLAY_STORE_LEAST);
 IS_UNSIGNED(DISPLAY_STORE_MOST);
 IS_UNSIGNED(DISPLAY_DIRECTORY_SIZE);
@@ -45,6 +47,7 @@ IS_UNSIGNED(DISPLAY_SIGNAL_ALMOST_EMPTY);
 IS_UNSIGNED(DISPLAY_STATE_REFUSAL_COUNT_LOW);
 IS_UNSIGNED(DISPLAY_STATE_REFUSAL_COUNT_HIGH);
 IS_UNSIGNED(DISPLAY_STATE_LAST_REFUSAL);
+IS_UNSIGNED(DISPLAY_STATE_HEIGHT);
 IS_UNSIGNED(DISPLAY_STATE_CONTRAST);
 IS_UNSIGNED(DISPLAY_STATE_BACKLIGHT_ON);
 IS_UNSIGNED(DISPLAY_STATE_BACKLIGHT_MINUTES);
@@ -53,31 +56,41 @@ IS_UNSIGNED(DISPLAY_QUEUE_LOST_COUNT_HIGH);
 
 #define IS_CALL(name, ...) static_assert(std::is_same<decltype(name), uint32_t(__VA_ARGS__)>::value, #name)
 
-IS_CALL(display_start, uint8_t *, uint64_t, uint8_t *, uint64_t, uint8_t *, uint64_t, uint8_t *, uint64_t);
+IS_CALL(display_start, uint32_t, uint8_t *, uint64_t, uint8_t *, uint64_t, uint8_t *, uint64_t, uint8_t *, uint64_t);
 IS_CALL(display_feed, uint8_t *, uint64_t, uint8_t *, uint64_t, uint8_t *, uint64_t, const uint8_t *, uint64_t,
         uint8_t *, uint64_t, uint64_t *, uint64_t *);
 IS_CALL(display_arrive, const uint8_t *, uint64_t, uint8_t *, uint64_t, uint8_t, uint8_t *);
 IS_CALL(display_take, const uint8_t *, uint64_t, uint8_t *, uint64_t, uint8_t *, uint8_t *);
 static_assert(std::is_same<display_length, uint64_t>::value, "display_length");
 
-static uint8_t glass[DISPLAY_FRAMEBUFFER_SIZE];
+// The sizes suit each other.
+static_assert(DISPLAY_LOW_HEIGHT * DISPLAY_STRIDE == DISPLAY_LOW_FRAMEBUFFER_SIZE, "low");
+static_assert(DISPLAY_TALL_HEIGHT * DISPLAY_STRIDE == DISPLAY_TALL_FRAMEBUFFER_SIZE, "tall");
+
+static uint8_t glass[DISPLAY_TALL_FRAMEBUFFER_SIZE];
 static uint8_t store[DISPLAY_STORE_LEAST];
 static uint8_t state[DISPLAY_STATE_RECORD_SIZE];
 static uint8_t queue[DISPLAY_QUEUE_RECORD_SIZE];
 
 // One byte through all four calls.
-int main()
+static bool is_obeyed(uint32_t height, display_length glass_length)
 {
     uint8_t byte = 0, signal = 0, replies[DISPLAY_REPLY_ROOM];
     display_length consumed = 0, replied = 0;
-    bool done = display_start(glass, sizeof glass, store, sizeof store, state, sizeof state, queue,
+    bool done = display_start(height, glass, glass_length, store, sizeof store, state, sizeof state, queue,
                               sizeof queue) == DISPLAY_OK;
     done = done && display_arrive(state, sizeof state, queue, sizeof queue, 'A', &signal) == DISPLAY_OK;
     done = done && display_take(state, sizeof state, queue, sizeof queue, &byte, &signal) == DISPLAY_OK;
-    done = done && display_feed(glass, sizeof glass, store, sizeof store, state, sizeof state, &byte, 1, replies,
+    done = done && display_feed(glass, glass_length, store, sizeof store, state, sizeof state, &byte, 1, replies,
                                 sizeof replies, &consumed, &replied) == DISPLAY_OK;
     done = done && byte == 'A' && consumed == 1 && replied == 0 && signal == DISPLAY_SIGNAL_NONE;
     done = done && display_refusal_count(state) == 0 && display_last_refusal(state) == DISPLAY_NO_REFUSAL;
-    done = done && display_lost_count(queue) == 0 && display_backlight_is_on(state);
-    return done ? 0 : 1;
+    return done && display_lost_count(queue) == 0 && display_backlight_is_on(state) && display_height(state) == height;
+}
+
+int main()
+{
+    bool low = is_obeyed(DISPLAY_LOW_HEIGHT, DISPLAY_LOW_FRAMEBUFFER_SIZE);
+    bool tall = is_obeyed(DISPLAY_TALL_HEIGHT, DISPLAY_TALL_FRAMEBUFFER_SIZE);
+    return low && tall ? 0 : 1;
 }

@@ -1,19 +1,11 @@
 // Checks each number of display.h against what the library does: sizes by the calls that accept and refuse them,
 // offsets by the bytes that a command changes, answers, refusals and signals by what provokes them. No number of the
 // header is repeated here.
-#include "display.h"
-
 #include "check-calls.h"
 
-enum {
-    COMMAND = 254, NO_COMMAND = 1, PURGE = 33, UPLOAD_FONT = 36, SERIAL_NUMBER = 52, FLOW_ON = 58, BACKLIGHT_ON = 66,
-    WRAP_OFF = 68, BACKLIGHT_OFF = 70, TEXT_CELL = 71, CONTRAST = 80, UPLOAD_BITMAP = 94, SHOW_BITMAP = 98,
-    WRITE_BAR = 105, PIXEL = 112, RECTANGLE = 120, TEXT_POINT = 121, DELETE_FILE = 173
-};
+#include <stdio.h>
 
-enum { ACCEPTED = 1, DECLINED = 8, CONFIRM = 1 }; // the handshake of an upload
-
-#define GLASS DISPLAY_FRAMEBUFFER_SIZE
+#define GLASS right.glass
 #define STORE DISPLAY_STORE_LEAST
 #define STATE DISPLAY_STATE_RECORD_SIZE
 #define QUEUE DISPLAY_QUEUE_RECORD_SIZE
@@ -21,60 +13,65 @@ enum { ACCEPTED = 1, DECLINED = 8, CONFIRM = 1 }; // the handshake of an upload
 // Beyond a length of 32 bits. A refused length is refused unread, so nothing need be there.
 #define FAR ((display_length)1 << 32)
 
-static const struct {
-    const char *what;
-    Lengths lengths;
-    uint32_t answer; // of start
-} lengths[] = {
-    {"smallest store", {GLASS, STORE, STATE, QUEUE}, DISPLAY_OK},
-    {"largest store", {GLASS, DISPLAY_STORE_MOST, STATE, QUEUE}, DISPLAY_OK},
-    {"no framebuffer", {0, STORE, STATE, QUEUE}, DISPLAY_BAD_FRAMEBUFFER_SIZE},
-    {"framebuffer short", {GLASS - 1, STORE, STATE, QUEUE}, DISPLAY_BAD_FRAMEBUFFER_SIZE},
-    {"framebuffer long", {GLASS + 1, STORE, STATE, QUEUE}, DISPLAY_BAD_FRAMEBUFFER_SIZE},
-    {"no store", {GLASS, 0, STATE, QUEUE}, DISPLAY_BAD_STORE_SIZE},
-    {"store short", {GLASS, STORE - 1, STATE, QUEUE}, DISPLAY_BAD_STORE_SIZE},
-    {"store long", {GLASS, DISPLAY_STORE_MOST + 1, STATE, QUEUE}, DISPLAY_BAD_STORE_SIZE},
-    {"no state", {GLASS, STORE, 0, QUEUE}, DISPLAY_BAD_RECORD},
-    {"state short", {GLASS, STORE, STATE - 1, QUEUE}, DISPLAY_BAD_RECORD},
-    {"state long", {GLASS, STORE, STATE + 1, QUEUE}, DISPLAY_BAD_RECORD},
-    {"no queue", {GLASS, STORE, STATE, 0}, DISPLAY_BAD_RECORD},
-    {"queue short", {GLASS, STORE, STATE, QUEUE - 1}, DISPLAY_BAD_RECORD},
-    {"queue long", {GLASS, STORE, STATE, QUEUE + 1}, DISPLAY_BAD_RECORD},
-    {"framebuffer far too long", {GLASS + FAR, STORE, STATE, QUEUE}, DISPLAY_BAD_FRAMEBUFFER_SIZE},
-    {"store far too long", {GLASS, STORE + FAR, STATE, QUEUE}, DISPLAY_BAD_STORE_SIZE},
-    {"state far too long", {GLASS, STORE, STATE + FAR, QUEUE}, DISPLAY_BAD_RECORD},
-    {"queue far too long", {GLASS, STORE, STATE, QUEUE + FAR}, DISPLAY_BAD_RECORD},
-    {"framebuffer, store, state", {GLASS + 1, STORE - 1, STATE + 1, QUEUE}, DISPLAY_BAD_FRAMEBUFFER_SIZE},
-    {"store, state", {GLASS, DISPLAY_STORE_MOST + 1, STATE - 1, QUEUE}, DISPLAY_BAD_STORE_SIZE},
-};
-
 // A feed is not lent the queue; arrive and take are lent the records alone.
+static void check_lengths_of(const char *what, Lengths n, uint32_t started, uint32_t fed)
+{
+    uint32_t queued = n.queue != QUEUE || n.state != STATE ? DISPLAY_BAD_RECORD : DISPLAY_OK;
+    spoil();
+    CHECK(what, started, start(n));
+    CHECK(what, started == DISPLAY_OK, changed());
+    fresh();
+    CHECK_FED(what, feed_with(n, BYTES('A'), REPLIES), fed, fed == DISPLAY_OK, 0);
+    CHECK(what, fed == DISPLAY_OK, changed());
+    CHECK_QUEUED(what, arrive(n, 'A'), queued, 0, DISPLAY_SIGNAL_NONE);
+    CHECK(what, queued == DISPLAY_OK, changed());
+    CHECK_QUEUED(what, take(n), queued, queued == DISPLAY_OK ? 'A' : 0, DISPLAY_SIGNAL_NONE);
+    CHECK(what, queued == DISPLAY_OK, changed());
+}
+
 static void check_lengths(void)
 {
+    enum { OK = DISPLAY_OK, FRAMEBUFFER = DISPLAY_BAD_FRAMEBUFFER_SIZE, FILES = DISPLAY_BAD_STORE_SIZE,
+           RECORD = DISPLAY_BAD_RECORD };
+    const display_length most = DISPLAY_STORE_MOST;
+    const struct {
+        const char *what;
+        Lengths lengths;
+        uint32_t started, fed;
+    } cases[] = {
+        {"smallest store", {GLASS, STORE, STATE, QUEUE}, OK, OK},
+        {"largest store", {GLASS, most, STATE, QUEUE}, OK, OK},
+        {"no framebuffer", {0, STORE, STATE, QUEUE}, FRAMEBUFFER, FRAMEBUFFER},
+        {"framebuffer short", {GLASS - 1, STORE, STATE, QUEUE}, FRAMEBUFFER, FRAMEBUFFER},
+        {"framebuffer long", {GLASS + 1, STORE, STATE, QUEUE}, FRAMEBUFFER, FRAMEBUFFER},
+        {"no store", {GLASS, 0, STATE, QUEUE}, FILES, FILES},
+        {"store short", {GLASS, STORE - 1, STATE, QUEUE}, FILES, FILES},
+        {"store long", {GLASS, most + 1, STATE, QUEUE}, FILES, FILES},
+        {"no state", {GLASS, STORE, 0, QUEUE}, RECORD, RECORD},
+        {"state short", {GLASS, STORE, STATE - 1, QUEUE}, RECORD, RECORD},
+        {"state long", {GLASS, STORE, STATE + 1, QUEUE}, RECORD, RECORD},
+        {"no queue", {GLASS, STORE, STATE, 0}, RECORD, OK},
+        {"queue short", {GLASS, STORE, STATE, QUEUE - 1}, RECORD, OK},
+        {"queue long", {GLASS, STORE, STATE, QUEUE + 1}, RECORD, OK},
+        {"framebuffer far too long", {GLASS + FAR, STORE, STATE, QUEUE}, FRAMEBUFFER, FRAMEBUFFER},
+        {"store far too long", {GLASS, STORE + FAR, STATE, QUEUE}, FILES, FILES},
+        {"state far too long", {GLASS, STORE, STATE + FAR, QUEUE}, RECORD, RECORD},
+        {"queue far too long", {GLASS, STORE, STATE, QUEUE + FAR}, RECORD, OK},
+        {"framebuffer, store, state", {GLASS + 1, STORE - 1, STATE + 1, QUEUE}, RECORD, RECORD},
+        {"framebuffer, store, queue", {GLASS - 1, STORE - 1, STATE, QUEUE - 1}, RECORD, FRAMEBUFFER},
+        {"framebuffer, store", {GLASS + 1, most + 1, STATE, QUEUE}, FRAMEBUFFER, FRAMEBUFFER},
+        {"store, state", {GLASS, most + 1, STATE - 1, QUEUE}, RECORD, RECORD},
+        {"store, queue", {GLASS, STORE - 1, STATE, QUEUE + 1}, RECORD, FILES},
+    };
     size_t i;
-    for (i = 0; i < sizeof lengths / sizeof *lengths; i++) {
-        const char *what = lengths[i].what;
-        Lengths n = lengths[i].lengths;
-        int other_queue = n.queue != RIGHT.queue;
-        uint32_t fed = other_queue ? DISPLAY_OK : lengths[i].answer;
-        uint32_t queued = other_queue || n.state != RIGHT.state ? DISPLAY_BAD_RECORD : DISPLAY_OK;
-        memset(&memory, GARBAGE, sizeof memory);
-        memset(memory.store, 0, DISPLAY_DIRECTORY_SIZE);
-        CHECK(what, lengths[i].answer, start(n));
-        CHECK(what, lengths[i].answer == DISPLAY_OK, changed());
-        fresh();
-        CHECK_FED(what, feed_with(n, BYTES('A'), REPLIES), fed, fed == DISPLAY_OK, 0);
-        CHECK(what, fed == DISPLAY_OK, changed());
-        CHECK_QUEUED(what, arrive(n, 'A'), queued, 0, DISPLAY_SIGNAL_NONE);
-        CHECK(what, queued == DISPLAY_OK, changed());
-        CHECK_QUEUED(what, take(n), queued, queued == DISPLAY_OK ? 'A' : 0, DISPLAY_SIGNAL_NONE);
-        CHECK(what, queued == DISPLAY_OK, changed());
-    }
+    for (i = 0; i < sizeof cases / sizeof *cases; i++)
+        check_lengths_of(cases[i].what, cases[i].lengths, cases[i].started, cases[i].fed);
 }
 
 // The four corners of the panel are bits of the framebuffer, and what lies one beyond is not.
 static void check_screen(void)
 {
+    uint8_t last = (uint8_t)(height - 1);
     fresh();
     FEED(COMMAND, PIXEL, 0, 0);
     CHANGES(glass, "first pixel", 0);
@@ -82,28 +79,28 @@ static void check_screen(void)
     FEED(COMMAND, PIXEL, DISPLAY_WIDTH - 1, 0);
     CHANGES(glass, "end of the first row", DISPLAY_STRIDE - 1);
     CHECK("end of the first row", 0x01, memory.glass[DISPLAY_STRIDE - 1]);
-    FEED(COMMAND, PIXEL, 0, DISPLAY_HEIGHT - 1);
-    CHANGES(glass, "start of the last row", DISPLAY_FRAMEBUFFER_SIZE - DISPLAY_STRIDE);
-    CHECK("start of the last row", 0x80, memory.glass[DISPLAY_FRAMEBUFFER_SIZE - DISPLAY_STRIDE]);
-    FEED(COMMAND, PIXEL, DISPLAY_WIDTH - 1, DISPLAY_HEIGHT - 1);
-    CHANGES(glass, "last pixel", DISPLAY_FRAMEBUFFER_SIZE - 1);
-    CHECK("last pixel", 0x01, memory.glass[DISPLAY_FRAMEBUFFER_SIZE - 1]);
+    FEED(COMMAND, PIXEL, 0, last);
+    CHANGES(glass, "start of the last row", GLASS - DISPLAY_STRIDE);
+    CHECK("start of the last row", 0x80, memory.glass[GLASS - DISPLAY_STRIDE]);
+    FEED(COMMAND, PIXEL, DISPLAY_WIDTH - 1, last);
+    CHANGES(glass, "last pixel", GLASS - 1);
+    CHECK("last pixel", 0x01, memory.glass[GLASS - 1]);
     FEED(COMMAND, PIXEL, DISPLAY_WIDTH, 0);
     NOTHING_CHANGES("a column too far");
-    FEED(COMMAND, PIXEL, 0, DISPLAY_HEIGHT);
+    FEED(COMMAND, PIXEL, 0, (uint8_t)(last + 1));
     NOTHING_CHANGES("a row too far");
 }
 
 static void check_directory(void)
 {
-    static const Lengths short_state = {GLASS, STORE, STATE - 1, QUEUE};
+    const Lengths short_state = {GLASS, STORE, STATE - 1, QUEUE};
     size_t most = DISPLAY_STORE_LEAST - DISPLAY_DIRECTORY_SIZE;
     Fed fed;
     fresh();
     memory.store[DISPLAY_DIRECTORY_SIZE - 1] = GARBAGE;
-    CHECK("a stray byte at its end", DISPLAY_BAD_DIRECTORY, start(RIGHT));
+    CHECK("a stray byte at its end", DISPLAY_BAD_DIRECTORY, start(right));
     NOTHING_CHANGES("start with a broken directory");
-    CHECK_FED("a stray byte at its end", feed_with(RIGHT, BYTES('A'), REPLIES), DISPLAY_BAD_DIRECTORY, 0, 0);
+    CHECK_FED("a stray byte at its end", feed_with(right, BYTES('A'), REPLIES), DISPLAY_BAD_DIRECTORY, 0, 0);
     NOTHING_CHANGES("feed with a broken directory");
     CHECK("a wrong record too", DISPLAY_BAD_RECORD, start(short_state));
     CHECK_FED("a wrong record too", feed_with(short_state, BYTES('A'), REPLIES), DISPLAY_BAD_RECORD, 0, 0);
@@ -116,7 +113,7 @@ static void check_directory(void)
     CHECK("first byte of the first file", 'B', memory.store[DISPLAY_DIRECTORY_SIZE]);
     CHECK("byte behind it", GARBAGE, memory.store[DISPLAY_DIRECTORY_SIZE + 1]);
     memcpy(memory.store, BYTES(2, 3, 1, 0)); // meanwhile the directory has got a bitmap 3
-    CHECK_FED("upload of a file that is there", feed_with(RIGHT, BYTES('A'), REPLIES), DISPLAY_BAD_DIRECTORY, 0, 0);
+    CHECK_FED("upload of a file that is there", feed_with(right, BYTES('A'), REPLIES), DISPLAY_BAD_DIRECTORY, 0, 0);
     NOTHING_CHANGES("upload of a file that is there");
 
     fresh();
@@ -130,20 +127,20 @@ static void check_reply_room(void)
     static const uint8_t twice[] = {COMMAND, SERIAL_NUMBER, 'S', 'N', COMMAND, SERIAL_NUMBER, 'X', 'Y'};
     Fed fed;
     fresh();
-    CHECK_FED("room too small", feed_with(RIGHT, BYTES('A'), DISPLAY_REPLY_ROOM - 1), DISPLAY_NO_REPLY_ROOM, 0, 0);
+    CHECK_FED("room too small", feed_with(right, BYTES('A'), DISPLAY_REPLY_ROOM - 1), DISPLAY_NO_REPLY_ROOM, 0, 0);
     NOTHING_CHANGES("room too small");
-    CHECK_FED("no room", feed_with(RIGHT, BYTES('A'), 0), DISPLAY_NO_REPLY_ROOM, 0, 0);
+    CHECK_FED("no room", feed_with(right, BYTES('A'), 0), DISPLAY_NO_REPLY_ROOM, 0, 0);
     NOTHING_CHANGES("no room");
-    CHECK_FED("empty piece without room", feed_with(RIGHT, NULL, 0, 0), DISPLAY_OK, 0, 0);
+    CHECK_FED("empty piece without room", feed_with(right, NULL, 0, 0), DISPLAY_OK, 0, 0);
     NOTHING_CHANGES("empty piece without room");
-    CHECK_FED("empty piece", feed_with(RIGHT, NULL, 0, REPLIES), DISPLAY_OK, 0, 0);
+    CHECK_FED("empty piece", feed_with(right, NULL, 0, REPLIES), DISPLAY_OK, 0, 0);
     NOTHING_CHANGES("empty piece");
-    CHECK_FED("room for a byte", feed_with(RIGHT, BYTES('A'), DISPLAY_REPLY_ROOM), DISPLAY_OK, 1, 0);
+    CHECK_FED("room for a byte", feed_with(right, BYTES('A'), DISPLAY_REPLY_ROOM), DISPLAY_OK, 1, 0);
 
-    fed = feed_with(RIGHT, twice, sizeof twice, 2 * DISPLAY_REPLY_ROOM - 1);
+    fed = feed_with(right, twice, sizeof twice, 2 * DISPLAY_REPLY_ROOM - 1);
     CHECK_FED("room for the first reply", fed, DISPLAY_NO_REPLY_ROOM, sizeof twice / 2, DISPLAY_REPLY_ROOM);
     CHECK("serial number", 0, memcmp(fed.replies, BYTES('S', 'N')) != 0);
-    fed = feed_with(RIGHT, twice + sizeof twice / 2, sizeof twice / 2, DISPLAY_REPLY_ROOM);
+    fed = feed_with(right, twice + sizeof twice / 2, sizeof twice / 2, DISPLAY_REPLY_ROOM);
     CHECK_FED("the rest with room", fed, DISPLAY_OK, sizeof twice / 2, DISPLAY_REPLY_ROOM);
     CHECK("serial number again", 0, memcmp(fed.replies, BYTES('S', 'N')) != 0);
 }
@@ -157,7 +154,7 @@ static void check_settings(void)
     FEED(COMMAND, CONTRAST, 17);
     CHANGES(state, "contrast", DISPLAY_STATE_CONTRAST);
     for (contrast = 0; contrast < 256; contrast++) {
-        feed_with(RIGHT, BYTES(COMMAND, CONTRAST, (uint8_t)contrast), REPLIES);
+        feed_with(right, BYTES(COMMAND, CONTRAST, (uint8_t)contrast), REPLIES);
         wrong += display_contrast(memory.state) != contrast;
     }
     CHECK("contrasts that read as another", 0, wrong);
@@ -207,9 +204,9 @@ static void check_refusals(void)
         fresh();
         CHECK("last refusal at start", DISPLAY_NO_REFUSAL, display_last_refusal(memory.state));
         CHECK("refusal count at start", 0, display_refusal_count(memory.state));
-        feed(__LINE__, refusals[i].stream, refusals[i].length - 1);
+        feed(HERE, refusals[i].stream, refusals[i].length - 1);
         CHECK(refusals[i].name, 0, display_refusal_count(memory.state));
-        feed(__LINE__, refusals[i].stream + refusals[i].length - 1, 1);
+        feed(HERE, refusals[i].stream + refusals[i].length - 1, 1);
         CHECK(refusals[i].name, 1, display_refusal_count(memory.state));
         CHECK(refusals[i].name, refusals[i].refusal, display_last_refusal(memory.state));
     }
@@ -223,7 +220,7 @@ static void refuse(unsigned times)
         unknown[2 * i] = COMMAND;
         unknown[2 * i + 1] = NO_COMMAND;
     }
-    feed(__LINE__, unknown, 2 * (size_t)times);
+    feed(HERE, unknown, 2 * (size_t)times);
 }
 
 static void check_refusal_count(void)
@@ -248,7 +245,7 @@ static void fill_queue(void)
 {
     unsigned i, wrong = 0;
     for (i = 0; i < DISPLAY_QUEUE_CAPACITY; i++)
-        wrong += arrive(RIGHT, (uint8_t)(i + 1)).answer != DISPLAY_OK;
+        wrong += arrive(right, (uint8_t)(i + 1)).answer != DISPLAY_OK;
     CHECK("arrivals refused before the queue is full", 0, wrong);
 }
 
@@ -256,26 +253,26 @@ static void check_queue(void)
 {
     unsigned i, wrong = 0;
     fresh();
-    CHECK_QUEUED("empty queue", take(RIGHT), DISPLAY_QUEUE_EMPTY, 0, DISPLAY_SIGNAL_NONE);
+    CHECK_QUEUED("empty queue", take(right), DISPLAY_QUEUE_EMPTY, 0, DISPLAY_SIGNAL_NONE);
     NOTHING_CHANGES("empty queue");
     fill_queue();
     CHECK("lost count of a full queue", 0, display_lost_count(memory.queue));
-    CHECK_QUEUED("full queue", arrive(RIGHT, 'A'), DISPLAY_QUEUE_FULL, 0, DISPLAY_SIGNAL_NONE);
+    CHECK_QUEUED("full queue", arrive(right, 'A'), DISPLAY_QUEUE_FULL, 0, DISPLAY_SIGNAL_NONE);
     CHANGES(queue, "first byte lost", DISPLAY_QUEUE_LOST_COUNT_LOW);
     for (i = 2; i <= 256; i++) {
-        arrive(RIGHT, 'A');
+        arrive(right, 'A');
         wrong += display_lost_count(memory.queue) != i;
     }
     CHANGES(queue, "byte 256 lost", DISPLAY_QUEUE_LOST_COUNT_LOW, DISPLAY_QUEUE_LOST_COUNT_HIGH);
     for (i = 257; i <= 65536; i++) {
-        arrive(RIGHT, 'A');
+        arrive(right, 'A');
         wrong += display_lost_count(memory.queue) != i % 65536;
     }
     CHANGES(queue, "byte 65,536 lost", DISPLAY_QUEUE_LOST_COUNT_LOW, DISPLAY_QUEUE_LOST_COUNT_HIGH);
     CHECK("lost counts that read as another", 0, wrong);
     for (i = 0; i < DISPLAY_QUEUE_CAPACITY; i++)
-        CHECK_QUEUED("a byte of the full queue", take(RIGHT), DISPLAY_OK, i + 1, DISPLAY_SIGNAL_NONE);
-    CHECK("all taken", DISPLAY_QUEUE_EMPTY, take(RIGHT).answer);
+        CHECK_QUEUED("a byte of the full queue", take(right), DISPLAY_OK, i + 1, DISPLAY_SIGNAL_NONE);
+    CHECK("all taken", DISPLAY_QUEUE_EMPTY, take(right).answer);
 }
 
 // Signals come once, where the free room has shrunk to `full` bytes and where the held bytes have shrunk to `empty`.
@@ -287,27 +284,12 @@ static void check_signals(void)
     FEED(COMMAND, FLOW_ON, FULL, EMPTY);
     for (i = 1; i <= DISPLAY_QUEUE_CAPACITY; i++) {
         expected = DISPLAY_QUEUE_CAPACITY - i == FULL ? DISPLAY_SIGNAL_ALMOST_FULL : DISPLAY_SIGNAL_NONE;
-        CHECK_QUEUED("signal of an arrival", arrive(RIGHT, 'A'), DISPLAY_OK, 0, expected);
+        CHECK_QUEUED("signal of an arrival", arrive(right, 'A'), DISPLAY_OK, 0, expected);
     }
     for (i = 1; i <= DISPLAY_QUEUE_CAPACITY; i++) {
         expected = DISPLAY_QUEUE_CAPACITY - i == EMPTY ? DISPLAY_SIGNAL_ALMOST_EMPTY : DISPLAY_SIGNAL_NONE;
-        CHECK_QUEUED("signal of a take", take(RIGHT), DISPLAY_OK, 'A', expected);
+        CHECK_QUEUED("signal of a take", take(right), DISPLAY_OK, 'A', expected);
     }
-}
-
-static void check_queue_refused(int line, const char *what)
-{
-    check_queued(line, what, arrive(RIGHT, 'A'), DISPLAY_BAD_RECORD, 0, DISPLAY_SIGNAL_NONE);
-    check(line, what, 0, changed());
-    check_queued(line, what, take(RIGHT), DISPLAY_BAD_RECORD, 0, DISPLAY_SIGNAL_NONE);
-    check(line, what, 0, changed());
-}
-
-static void check_state_refused(int line, const char *what)
-{
-    check_fed(line, what, feed_with(RIGHT, BYTES('A'), REPLIES), DISPLAY_BAD_RECORD, 0, 0);
-    check(line, what, 0, changed());
-    check_queue_refused(line, what);
 }
 
 // The place of a flow threshold is found by two records that differ in it.
@@ -322,21 +304,23 @@ static void check_damage(void)
     CHECK("thresholds as large as they may be", 0, display_refusal_count(memory.state));
     FEED('A');
     memory.state[threshold]++;
-    check_state_refused(__LINE__, "thresholds too large");
-    CHECK("start over a damaged record", DISPLAY_OK, start(RIGHT));
+    check_state_refused(HERE, "thresholds too large");
+    CHECK("start over a damaged record", DISPLAY_OK, start(right));
     memory.state[DISPLAY_STATE_BACKLIGHT_ON] = 2;
-    check_state_refused(__LINE__, "backlight neither on nor off");
+    check_state_refused(HERE, "backlight neither on nor off");
     memset(memory.state, 0xFF, DISPLAY_STATE_RECORD_SIZE);
-    check_state_refused(__LINE__, "state of ones");
+    check_state_refused(HERE, "state of ones");
     fresh();
     memset(memory.queue, 0xFF, DISPLAY_QUEUE_RECORD_SIZE);
-    check_queue_refused(__LINE__, "queue of ones");
+    check_queue_refused(HERE, "queue of ones");
 }
 
-int main(void)
+static void check_all(uint32_t rows)
 {
+    set_height(rows);
     check_lengths();
     check_screen();
+    check_rows();
     check_directory();
     check_reply_room();
     check_settings();
@@ -345,6 +329,13 @@ int main(void)
     check_queue();
     check_signals();
     check_damage();
+}
+
+int main(void)
+{
+    check_all(DISPLAY_LOW_HEIGHT);
+    check_all(DISPLAY_TALL_HEIGHT);
+    check_heights();
     CHECK("calls that wrote beside what they were lent", 0, strays);
     if (failures != 0)
         printf("check-header: %u failed\n", failures);

@@ -14,12 +14,18 @@ static size_t accept(void *wire, const uint8_t *bytes, size_t count)
     return count;
 }
 
-int main()
+static bool is_served(uint32_t height)
 {
     const uint8_t serial_number[] = {254, 52, 'S', 'N'};
-    bool done = port_start(&port, store, sizeof store, accept, sent) == DISPLAY_OK;
+    bool done = port_start(&port, height, store, sizeof store, accept, sent) == DISPLAY_OK;
+    sent[0] = sent[1] = 0;
     for (uint8_t byte : serial_number)
         port_receive(&port, byte);
     done = done && port_waiting(&port) == sizeof serial_number && port_poll(&port) == DISPLAY_OK;
-    return done && port_waiting(&port) == 0 && sent[0] == 'S' && sent[1] == 'N' ? 0 : 1;
+    return done && port_waiting(&port) == 0 && sent[0] == 'S' && sent[1] == 'N';
+}
+
+int main()
+{
+    return is_served(DISPLAY_LOW_HEIGHT) && is_served(DISPLAY_TALL_HEIGHT) ? 0 : 1;
 }

@@ -3,12 +3,17 @@
 
 #include <stdio.h>
 
-static void check_refused_start(display_length length, uint32_t answer)
+static void check_refused_start(uint32_t rows, display_length length, uint32_t answer)
 {
     static uint8_t before[sizeof store];
+    static Port port_before;
     unsigned calls_before = calls;
     memcpy(before, store, sizeof store);
-    CHECK("start", answer, start(length));
+    port_before = port;
+    CHECK("start", answer, start_at(rows, length));
+    CHECK("framebuffer changed", 0, memcmp(port_before.framebuffer, port.framebuffer, sizeof port.framebuffer) != 0);
+    CHECK("state changed", 0, memcmp(port_before.state, port.state, sizeof port.state) != 0);
+    CHECK("queue changed", 0, memcmp(port_before.queue, port.queue, sizeof port.queue) != 0);
     RECEIVE('A');
     CHECK("round after a refused start", answer, poll());
     CHECK("calls after a refused start", 0, calls - calls_before);
@@ -19,20 +24,43 @@ static void check_refused_start(display_length length, uint32_t answer)
 static void check_start(void)
 {
     fresh();
-    check_refused_start(DISPLAY_STORE_LEAST - 1, DISPLAY_BAD_STORE_SIZE);
-    check_refused_start(DISPLAY_STORE_MOST + 1, DISPLAY_BAD_STORE_SIZE);
+    check_refused_start(height, DISPLAY_STORE_LEAST - 1, DISPLAY_BAD_STORE_SIZE);
+    check_refused_start(height, DISPLAY_STORE_MOST + 1, DISPLAY_BAD_STORE_SIZE);
     store[DISPLAY_DIRECTORY_SIZE - 1] = 1;
-    check_refused_start(DISPLAY_STORE_LEAST, DISPLAY_BAD_DIRECTORY);
+    check_refused_start(height, DISPLAY_STORE_LEAST, DISPLAY_BAD_DIRECTORY);
     store[DISPLAY_DIRECTORY_SIZE - 1] = 0;
     CHECK("start after the board has mended it", DISPLAY_OK, start(DISPLAY_STORE_LEAST));
     CHECK("bytes of before the start", 0, port_waiting(&port));
     CHECK("round", DISPLAY_OK, poll());
 }
 
+// The tall glass in a framebuffer of the low one is refused for its length. Unknown heights come before that, and both
+// before the store.
+static void check_heights(void)
+{
+    static const uint32_t unknown[] = {0, 63, 65, 127, 129, 255, 256, 320, 0x80000040, UINT32_MAX};
+    size_t i;
+    fresh();
+    CHECK("height", height, display_height(port.state));
+    CHECK("length of the glass", height * DISPLAY_STRIDE, (unsigned long)port.framebuffer_length);
+    for (i = 0; i < sizeof unknown / sizeof *unknown; i++) {
+        check_refused_start(unknown[i], DISPLAY_STORE_LEAST, DISPLAY_BAD_RECORD);
+        check_refused_start(unknown[i], DISPLAY_STORE_LEAST - 1, DISPLAY_BAD_RECORD);
+    }
+    if (sizeof port.framebuffer < DISPLAY_TALL_FRAMEBUFFER_SIZE) {
+        check_refused_start(DISPLAY_TALL_HEIGHT, DISPLAY_STORE_LEAST, DISPLAY_BAD_FRAMEBUFFER_SIZE);
+        check_refused_start(DISPLAY_TALL_HEIGHT, DISPLAY_STORE_LEAST - 1, DISPLAY_BAD_FRAMEBUFFER_SIZE);
+    }
+    CHECK("start at the right one", DISPLAY_OK, start(DISPLAY_STORE_LEAST));
+    RECEIVE(COMMAND, PIXEL, 0, (uint8_t)(height - 1), COMMAND, PIXEL, 1, (uint8_t)height);
+    drain();
+    CHECK("the last row", 0x80, port.framebuffer[(height - 1) * DISPLAY_STRIDE]);
+}
+
 static unsigned black_pixels(void)
 {
     unsigned i, count = 0;
-    for (i = 0; i < DISPLAY_WIDTH * DISPLAY_HEIGHT; i++)
+    for (i = 0; i < DISPLAY_WIDTH * height; i++)
         count += port.framebuffer[i / 8] >> (7 - i % 8) & 1;
     return count;
 }
@@ -103,7 +131,7 @@ static void check_losses(void)
     CHECK("pixels", QUEUE / 4, black_pixels());
     CHECK("last of them", 0xF0, port.framebuffer[2]);
     for (i = 0; i < DISPLAY_WIDTH; i++) {
-        RECEIVE(COMMAND, PIXEL, (uint8_t)i, 63);
+        RECEIVE(COMMAND, PIXEL, (uint8_t)i, (uint8_t)(height - 1));
         drain();
     }
     CHECK("pixels drawn while the ring goes round", QUEUE / 4 + DISPLAY_WIDTH, black_pixels());
@@ -139,6 +167,16 @@ static void check_bounded_round(void)
 static void damage_state(void)
 {
     port.state[DISPLAY_STATE_BACKLIGHT_ON] = 2;
+}
+
+static void damage_height(void)
+{
+    port.state[DISPLAY_STATE_HEIGHT]++;
+}
+
+static void mistake_height(void)
+{
+    port.state[DISPLAY_STATE_HEIGHT] = height == DISPLAY_LOW_HEIGHT ? DISPLAY_TALL_HEIGHT : DISPLAY_LOW_HEIGHT;
 }
 
 static void damage_queue(void)
@@ -213,16 +251,21 @@ static void check_fault_at_take(void (*damage)(void))
 static void check_faults(void)
 {
     check_fault_at_take(damage_state);
+    check_fault_at_take(damage_height);
     check_fault_at_take(damage_queue);
     check_fault(damage_state, 3, DISPLAY_BAD_RECORD, 1); // seen by the first arrival
+    check_fault(damage_height, 3, DISPLAY_BAD_RECORD, 1);
     check_fault(damage_queue, 3, DISPLAY_BAD_RECORD, 1);
     check_fault(damage_directory, 3, DISPLAY_BAD_DIRECTORY, 3 + 3 + 1); // by the feed after arrivals and takes
     check_fault(damage_length, 3, DISPLAY_BAD_STORE_SIZE, 3 + 3 + 1);
+    check_fault(mistake_height, 3, DISPLAY_BAD_FRAMEBUFFER_SIZE, 3 + 3 + 1);
 }
 
-int main(void)
+static void check_all(uint32_t rows)
 {
+    height = rows;
     check_start();
+    check_heights();
     check_upload();
     check_silent_host();
     check_losses();
@@ -230,6 +273,13 @@ int main(void)
     check_faults();
     check_flow();
     check_streams();
+}
+
+int main(void)
+{
+    check_all(DISPLAY_LOW_HEIGHT);
+    if (PORT_FRAMEBUFFER_SIZE >= DISPLAY_TALL_FRAMEBUFFER_SIZE)
+        check_all(DISPLAY_TALL_HEIGHT);
     check_manners();
     if (failures != 0)
         printf("check-port: %u failed\n", failures);

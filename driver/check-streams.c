@@ -104,7 +104,7 @@ static void run_through_driver(unsigned cluster, unsigned pace)
 static void check_stream(display_length store_length)
 {
     static const unsigned clusters[] = {1, 7, 80}, paces[] = {1, 4, 100};
-    static uint8_t framebuffer[DISPLAY_FRAMEBUFFER_SIZE], files[sizeof store], state[DISPLAY_STATE_RECORD_SIZE];
+    static uint8_t framebuffer[PORT_FRAMEBUFFER_SIZE], files[sizeof store], state[DISPLAY_STATE_RECORD_SIZE];
     static uint8_t sent[WIRE];
     display_length consumed, replied;
     make_stream();
@@ -113,7 +113,7 @@ static void check_stream(display_length store_length)
     memcpy(framebuffer, port.framebuffer, sizeof framebuffer);
     memcpy(files, store, sizeof files);
     memcpy(state, port.state, sizeof state);
-    CHECK("one feed", DISPLAY_OK, __real_display_feed(framebuffer, sizeof framebuffer, files, store_length, state,
+    CHECK("one feed", DISPLAY_OK, __real_display_feed(framebuffer, height * DISPLAY_STRIDE, files, store_length, state,
                                                       sizeof state, stream.bytes, stream.count, sent, sizeof sent,
                                                       &consumed, &replied));
     run_through_driver(clusters[below(3)], paces[below(3)]);
@@ -124,13 +124,25 @@ static void check_stream(display_length store_length)
     CHECK("lost", 0, display_lost_count(port.queue) + port.overruns);
 }
 
+// In the last eight rows of the glass.
+static int is_painted(void)
+{
+    size_t i;
+    for (i = (height - 8) * DISPLAY_STRIDE; i < height * DISPLAY_STRIDE; i++)
+        if (port.framebuffer[i] != 0)
+            return 1;
+    return 0;
+}
+
 void check_streams(void)
 {
-    unsigned i, starved = 0;
+    unsigned i, starved = 0, painted = 0;
     for (i = 1; i <= STREAMS; i++) {
         seed = i * 0x9E3779B97F4A7C15u;
         check_stream(DISPLAY_STORE_LEAST + below(DISPLAY_STORE_MOST - DISPLAY_STORE_LEAST));
         starved += answers[DISPLAY_NO_REPLY_ROOM] > 0;
+        painted += is_painted();
     }
     CHECK("streams that ran out of reply room", 1, starved > 0);
+    CHECK("streams that painted down to the end", 1, painted > STREAMS / 10);
 }

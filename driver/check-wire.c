@@ -3,6 +3,7 @@
 
 #include <stdio.h>
 
+uint32_t height;
 Port port;
 uint8_t store[DISPLAY_STORE_MOST + 1];
 Bytes host, replies;
@@ -15,7 +16,7 @@ static size_t given_by_arrivals; // length of `given` at the last arrival
 static size_t unfed_before;      // the round
 static size_t just_taken;        // since the last feed
 static int in_call;
-static unsigned overlaps, late, hoarded, stranded, starved;
+static unsigned overlaps, late, hoarded, stranded, starved, overlent;
 
 void check(const char *file, int line, const char *what, unsigned long expected, unsigned long got)
 {
@@ -23,7 +24,7 @@ void check(const char *file, int line, const char *what, unsigned long expected,
     if (expected == got)
         return;
     failures++;
-    printf("%s:%d: %s: expected %lu, got %lu\n", file, line, what, expected, got);
+    printf("%s:%d: %lu rows: %s: expected %lu, got %lu\n", file, line, (unsigned long)height, what, expected, got);
 }
 
 void check_bytes(const char *file, int line, const char *what, const Bytes *got, const uint8_t *expected, size_t count)
@@ -68,8 +69,25 @@ static uint32_t leave(uint32_t answer, const uint8_t *bytes, size_t count)
     return answer;
 }
 
+// At most the framebuffer that there is.
+static void look_at(const uint8_t *glass, display_length glass_length)
+{
+    overlent += glass != port.framebuffer || glass_length > sizeof port.framebuffer;
+}
+
+uint32_t __real_display_start(uint32_t, uint8_t *, display_length, uint8_t *, display_length, uint8_t *, display_length,
+                              uint8_t *, display_length);
 uint32_t __real_display_arrive(const uint8_t *, display_length, uint8_t *, display_length, uint8_t, uint8_t *);
 uint32_t __real_display_take(const uint8_t *, display_length, uint8_t *, display_length, uint8_t *, uint8_t *);
+
+uint32_t __wrap_display_start(uint32_t rows, uint8_t *glass, display_length glass_length, uint8_t *files,
+                              display_length files_length, uint8_t *state, display_length state_length, uint8_t *queue,
+                              display_length queue_length)
+{
+    look_at(glass, glass_length);
+    return __real_display_start(rows, glass, glass_length, files, files_length, state, state_length, queue,
+                                queue_length);
+}
 
 uint32_t __wrap_display_feed(uint8_t *glass, display_length glass_length, uint8_t *files, display_length files_length,
                              uint8_t *state, display_length state_length, const uint8_t *piece,
@@ -78,6 +96,7 @@ uint32_t __wrap_display_feed(uint8_t *glass, display_length glass_length, uint8_
 {
     uint32_t answer;
     late += allowance > 0 && host.count < given_by_arrivals;
+    look_at(glass, glass_length);
     enter();
     answer = __real_display_feed(glass, glass_length, files, files_length, state, state_length, piece, piece_length, to,
                                  to_length, consumed, replied);
@@ -111,18 +130,23 @@ uint32_t __wrap_display_take(const uint8_t *state, display_length state_length, 
     return leave(answer, signal, *signal != DISPLAY_SIGNAL_NONE);
 }
 
-uint32_t start(display_length store_length)
+uint32_t start_at(uint32_t rows, display_length store_length)
 {
     host.count = given.count = replies.count = given_by_arrivals = unfed = just_taken = 0;
     allowance = WIRE;
     memset(answers, 0, sizeof answers);
-    return port_start(&port, store, store_length, host_reads, &host);
+    return port_start(&port, rows, store, store_length, host_reads, &host);
+}
+
+uint32_t start(display_length store_length)
+{
+    return start_at(height, store_length);
 }
 
 void fresh(void)
 {
-    memset(&port, 0xA5, sizeof port);
-    memset(store, 0xA5, sizeof store);
+    memset(&port, GARBAGE, sizeof port);
+    memset(store, GARBAGE, sizeof store);
     memset(store, 0, DISPLAY_DIRECTORY_SIZE);
     CHECK("start", DISPLAY_OK, start(DISPLAY_STORE_LEAST));
 }
@@ -152,6 +176,16 @@ uint32_t poll(void)
     return answer;
 }
 
+// Of the framebuffer only the rows of the glass are used.
+static unsigned bytes_behind_glass(void)
+{
+    size_t i;
+    unsigned count = 0;
+    for (i = height * DISPLAY_STRIDE; i < sizeof port.framebuffer; i++)
+        count += port.framebuffer[i] != GARBAGE;
+    return count;
+}
+
 void drain(void)
 {
     unsigned rounds = 0;
@@ -159,6 +193,7 @@ void drain(void)
         rounds++;
     CHECK("bytes left waiting", 0, port_waiting(&port));
     CHECK_BYTES("the wire, in the order of the calls", &host, given.bytes, given.count);
+    CHECK("bytes written behind the glass", 0, bytes_behind_glass());
 }
 
 void check_manners(void)
@@ -168,4 +203,5 @@ void check_manners(void)
     CHECK("takes while older bytes were still to be fed", 0, hoarded);
     CHECK("rounds that took bytes and fed none", 0, stranded);
     CHECK("feeds without room for a byte", 0, starved);
+    CHECK("calls that were lent more than the framebuffer", 0, overlent);
 }

@@ -7,13 +7,14 @@
 
 #include <string.h>
 
-enum { WIRE = 1 << 16 };
+enum { WIRE = 1 << 16, GARBAGE = 0xA5 };
 
 typedef struct {
     uint8_t bytes[WIRE];
     size_t count;
 } Bytes;
 
+extern uint32_t height; // of the display under test
 extern Port port;
 extern uint8_t store[DISPLAY_STORE_MOST + 1];
 extern Bytes host;             // what the host has read
@@ -43,6 +44,7 @@ void check_bytes(const char *file, int line, const char *what, const Bytes *got,
 #define CHECK_BYTES(what, got, ...) check_bytes(__FILE__, __LINE__, what, got, __VA_ARGS__)
 
 // Forgets the wire, and starts the driver with a host that reads everything.
+uint32_t start_at(uint32_t rows, display_length store_length);
 uint32_t start(display_length store_length);
 
 // A display just started, with an empty store of the least size.
@@ -60,7 +62,7 @@ uint32_t poll(void);
 // Rounds until nothing waits any more; then the host must have read what the calls gave, in their order.
 void drain(void);
 
-// What no round may do, whatever the wire does: counted all along, checked at the end.
+// What no start and no round may do, whatever the wire does: counted all along, checked at the end.
 void check_manners(void);
 
 // The library's own call, past the spies.

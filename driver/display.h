@@ -5,13 +5,16 @@
 //
 // One display is four slices of memory, all of them the driver's own:
 //
-//   glass   the framebuffer, by the name that it has at this boundary: DISPLAY_HEIGHT rows from the top down,
-//           DISPLAY_STRIDE bytes to a row; bit 7 of a byte is its leftmost pixel, and a set bit is a black one
+//   glass   the framebuffer, by the name that it has at this boundary: as many rows from the top down as the glass is
+//           high, DISPLAY_STRIDE bytes to a row; bit 7 of a byte is its leftmost pixel, and a set bit is a black one
 //   store   the fonts and bitmaps that hosts have uploaded: a directory of DISPLAY_DIRECTORY_SIZE bytes, then the
 //           files. A new store has a directory of zeros. Its length is the board's choice between least and most
 //   state   the state record: the command under way, settings, graphs, counters. What a board may read of it has an
 //           offset below; the rest is the library's business
 //   queue   the queue record: bytes that came on the wire and wait to be obeyed
+//
+// One library serves the low glass and the tall one. The board says at start which it has; the state record keeps the
+// height, and from then on the framebuffer is lent at that height's length.
 //
 // The library looks at every length and every byte before it uses them, so no contents can harm it. Four things it
 // cannot see, and the caller keeps to them:
@@ -45,24 +48,26 @@ extern "C" {
 typedef uint64_t display_length;
 typedef char display_length_has_8_bytes[sizeof(display_length) == 8 ? 1 : -1];
 
-// Sizes: width and height in pixels, all else in bytes.
+// Sizes: width and heights in pixels, all else in bytes.
 #define DISPLAY_WIDTH 240u
-#define DISPLAY_HEIGHT 64u
+#define DISPLAY_LOW_HEIGHT 64u
+#define DISPLAY_TALL_HEIGHT 128u
 #define DISPLAY_STRIDE 30u
-#define DISPLAY_FRAMEBUFFER_SIZE 1920u
+#define DISPLAY_LOW_FRAMEBUFFER_SIZE 1920u
+#define DISPLAY_TALL_FRAMEBUFFER_SIZE 3840u
 #define DISPLAY_STORE_LEAST 1024u
 #define DISPLAY_STORE_MOST 32768u
 #define DISPLAY_DIRECTORY_SIZE 256u
-#define DISPLAY_STATE_RECORD_SIZE 201u
+#define DISPLAY_STATE_RECORD_SIZE 202u
 #define DISPLAY_QUEUE_RECORD_SIZE 85u
 #define DISPLAY_QUEUE_CAPACITY 80u // bytes that wait at most
 #define DISPLAY_REPLY_ROOM 2u      // free reply bytes that every fed byte needs, whether it replies or not
 
 // Answers of the calls.
 #define DISPLAY_OK 0u
-#define DISPLAY_BAD_FRAMEBUFFER_SIZE 1u
+#define DISPLAY_BAD_FRAMEBUFFER_SIZE 1u // not that of the height
 #define DISPLAY_BAD_STORE_SIZE 2u
-#define DISPLAY_BAD_RECORD 3u    // wrong length, or contents that are not sound
+#define DISPLAY_BAD_RECORD 3u    // wrong length, unknown height, or other contents that are not sound
 #define DISPLAY_BAD_DIRECTORY 4u // broken, or at odds with the upload under way
 #define DISPLAY_NO_REPLY_ROOM 5u // the only one of 1 to 7 after which bytes may have been obeyed
 #define DISPLAY_QUEUE_EMPTY 6u
@@ -94,27 +99,31 @@ typedef char display_length_has_8_bytes[sizeof(display_length) == 8 ? 1 : -1];
 #define DISPLAY_STATE_REFUSAL_COUNT_LOW 40u
 #define DISPLAY_STATE_REFUSAL_COUNT_HIGH 41u
 #define DISPLAY_STATE_LAST_REFUSAL 42u
-#define DISPLAY_STATE_CONTRAST 198u
-#define DISPLAY_STATE_BACKLIGHT_ON 199u      // 0 or 1
-#define DISPLAY_STATE_BACKLIGHT_MINUTES 200u // as sent, kept while the backlight is off
+#define DISPLAY_STATE_HEIGHT 43u
+#define DISPLAY_STATE_CONTRAST 199u
+#define DISPLAY_STATE_BACKLIGHT_ON 200u      // 0 or 1
+#define DISPLAY_STATE_BACKLIGHT_MINUTES 201u // as sent, kept while the backlight is off
 
 // Offsets into the queue record.
 #define DISPLAY_QUEUE_LOST_COUNT_LOW 83u
 #define DISPLAY_QUEUE_LOST_COUNT_HIGH 84u
 
-// Power-up: white framebuffer, settings and counters as new, empty queue. The store is only read and keeps its files.
+// Power-up of a glass of `height` rows, DISPLAY_LOW_HEIGHT or DISPLAY_TALL_HEIGHT: white framebuffer, settings and
+// counters as new, empty queue. The store is only read and keeps its files, whichever height they were uploaded at.
 // The records may hold anything before.
-// OK, or the first that applies of BAD_FRAMEBUFFER_SIZE, BAD_STORE_SIZE, BAD_RECORD (a length is wrong) and
-// BAD_DIRECTORY; nothing is written then.
-uint32_t display_start(uint8_t *glass, display_length glass_length, uint8_t *store, display_length store_length,
-                       uint8_t *state, display_length state_length, uint8_t *queue, display_length queue_length);
+// OK, or the first that applies of BAD_RECORD (another height, or the length of a record is wrong),
+// BAD_FRAMEBUFFER_SIZE, BAD_STORE_SIZE and BAD_DIRECTORY; nothing is written then.
+uint32_t display_start(uint32_t height, uint8_t *glass, display_length glass_length, uint8_t *store,
+                       display_length store_length, uint8_t *state, display_length state_length, uint8_t *queue,
+                       display_length queue_length);
 
 // Obeys the bytes of `piece`, the next stretch of the stream, in order. A stream may be cut anywhere, also inside a
 // command. What the bytes send is written to `replies` from its start; behind the first `*replied` bytes it keeps
 // what it held.
 // OK: all bytes are consumed. NO_REPLY_ROOM: the first `*consumed` are done for good; send the replies, then feed the
-// others. The first that applies of BAD_FRAMEBUFFER_SIZE, BAD_STORE_SIZE, BAD_RECORD and BAD_DIRECTORY: nothing is
-// done, and both counts are 0. An empty piece does nothing but these checks, and needs no reply room.
+// others. The first that applies of BAD_RECORD (its length or its height is wrong), BAD_FRAMEBUFFER_SIZE,
+// BAD_STORE_SIZE, BAD_RECORD (the rest of it) and BAD_DIRECTORY: nothing is done, and both counts are 0. An empty piece
+// does nothing but these checks, and needs no reply room.
 uint32_t display_feed(uint8_t *glass, display_length glass_length, uint8_t *store, display_length store_length,
                       uint8_t *state, display_length state_length, const uint8_t *piece, display_length piece_length,
                       uint8_t *replies, display_length replies_length, display_length *consumed,
@@ -141,6 +150,12 @@ static inline unsigned display_refusal_count(const uint8_t *state)
 static inline unsigned display_last_refusal(const uint8_t *state)
 {
     return state[DISPLAY_STATE_LAST_REFUSAL];
+}
+
+// Rows of the glass, as display_start was told.
+static inline unsigned display_height(const uint8_t *state)
+{
+    return state[DISPLAY_STATE_HEIGHT];
 }
 
 static inline unsigned display_contrast(const uint8_t *state)

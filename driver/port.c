@@ -13,6 +13,9 @@
 #if PORT_RECEIVE_SIZE > 128 || (PORT_RECEIVE_SIZE & (PORT_RECEIVE_SIZE - 1)) != 0 || PORT_TRANSMIT_SIZE < 4
 #error "sizes that port.h does not allow"
 #endif
+#if PORT_FRAMEBUFFER_SIZE != DISPLAY_LOW_FRAMEBUFFER_SIZE && PORT_FRAMEBUFFER_SIZE != DISPLAY_TALL_FRAMEBUFFER_SIZE
+#error "PORT_FRAMEBUFFER_SIZE is that of neither glass"
+#endif
 
 enum {
     ROOM_FOR_ARRIVALS = 1,
@@ -79,7 +82,7 @@ static uint32_t take_piece(Port *port)
 static uint32_t feed_piece(Port *port)
 {
     display_length consumed, replied;
-    uint32_t answer = display_feed(port->framebuffer, sizeof port->framebuffer, port->store, port->store_length,
+    uint32_t answer = display_feed(port->framebuffer, port->framebuffer_length, port->store, port->store_length,
                                    port->state, sizeof port->state, port->piece, port->piece_length,
                                    port->transmit + port->transmit_length, room(port) - ROOM_FOR_ARRIVALS, &consumed,
                                    &replied);
@@ -89,8 +92,16 @@ static uint32_t feed_piece(Port *port)
     return answer == DISPLAY_NO_REPLY_ROOM ? DISPLAY_OK : answer;
 }
 
-uint32_t port_start(Port *port, uint8_t *store, display_length store_length, PortSend *send, void *wire)
+// So many rows, or all bytes where these are fewer: a height that does not fit is for display_start to refuse.
+static display_length framebuffer_length(uint32_t height)
 {
+    return height <= PORT_FRAMEBUFFER_SIZE / DISPLAY_STRIDE ? height * DISPLAY_STRIDE : PORT_FRAMEBUFFER_SIZE;
+}
+
+uint32_t port_start(Port *port, uint32_t height, uint8_t *store, display_length store_length, PortSend *send,
+                    void *wire)
+{
+    port->framebuffer_length = framebuffer_length(height);
     port->store = store;
     port->store_length = store_length;
     port->send = send;
@@ -101,7 +112,8 @@ uint32_t port_start(Port *port, uint8_t *store, display_length store_length, Por
     port->queued = 0;
     port->piece_length = 0;
     port->transmit_length = 0;
-    port->answer = display_start(port->framebuffer, sizeof port->framebuffer, store, store_length, RECORDS(port));
+    port->answer = display_start(height, port->framebuffer, port->framebuffer_length, store, store_length,
+                                 RECORDS(port));
     return port->answer;
 }
 

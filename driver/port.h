@@ -3,7 +3,7 @@
 //     static Port port;
 //     void uart_interrupt(void) { port_receive(&port, UART_DATA); }
 //     ...
-//     if (port_start(&port, store, sizeof store, uart_send, NULL) == DISPLAY_OK)
+//     if (port_start(&port, DISPLAY_LOW_HEIGHT, store, sizeof store, uart_send, NULL) == DISPLAY_OK)
 //         while (port_poll(&port) == DISPLAY_OK)
 //             show(port.framebuffer, display_contrast(port.state), display_backlight_is_on(port.state));
 //
@@ -24,12 +24,19 @@ extern "C" {
 #define PORT_PIECE_SIZE 16u    // bytes obeyed in one round
 #define PORT_TRANSMIT_SIZE 32u // bytes that wait for the wire: 4 at least
 
+// Room for either glass. A board that has the low one only saves 1,920 bytes by
+// -D PORT_FRAMEBUFFER_SIZE=DISPLAY_LOW_FRAMEBUFFER_SIZE, the same for every file that includes this one.
+#ifndef PORT_FRAMEBUFFER_SIZE
+#define PORT_FRAMEBUFFER_SIZE DISPLAY_TALL_FRAMEBUFFER_SIZE
+#endif
+
 // Hands bytes to the wire, and says how many of them, from the first on, it has accepted. It may accept none.
 typedef size_t PortSend(void *wire, const uint8_t *bytes, size_t count);
 
-// Framebuffer and records stand in it as arrays, so their lengths are right and they share no byte.
+// Framebuffer and records stand in it as arrays, so they are as long as is said and share no byte.
 typedef struct {
-    uint8_t framebuffer[DISPLAY_FRAMEBUFFER_SIZE];
+    uint8_t framebuffer[PORT_FRAMEBUFFER_SIZE];
+    display_length framebuffer_length; // of the glass that was started; what lies behind is not used
     uint8_t state[DISPLAY_STATE_RECORD_SIZE];
     uint8_t queue[DISPLAY_QUEUE_RECORD_SIZE];
     uint8_t *store;
@@ -52,10 +59,12 @@ typedef struct {
     size_t transmit_length;
 } Port;
 
-// Power-up, with the receive interrupt off. `wire` goes to every call of `send`.
-// The answer of display_start. Unless it is DISPLAY_OK the store is as it was, and what to do about its size or its
-// broken directory is for the board to decide.
-uint32_t port_start(Port *port, uint8_t *store, display_length store_length, PortSend *send, void *wire);
+// Power-up of a glass of `height` rows, with the receive interrupt off. `wire` goes to every call of `send`.
+// The answer of display_start; for the tall glass where there is room for the low one only, BAD_FRAMEBUFFER_SIZE.
+// Unless it is DISPLAY_OK the store is as it was, and what to do about its size or its broken directory is for the
+// board to decide.
+uint32_t port_start(Port *port, uint32_t height, uint8_t *store, display_length store_length, PortSend *send,
+                    void *wire);
 
 // A byte has come on the wire. For the interrupt handler.
 void port_receive(Port *port, uint8_t byte);

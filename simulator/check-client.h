@@ -1,5 +1,5 @@
-// Scaffolding of check-simulator.c and check-ends.c: starts simulators, talks to them over their terminals, reads what
-// they print, and counts checks. Nothing waits longer than LIMIT for anything.
+// Scaffolding of check-simulator.c, check-heights.c and check-ends.c: starts simulators, talks to them over their
+// terminals, reads what they print, and counts checks. Nothing waits longer than LIMIT for anything.
 #ifndef CHECK_CLIENT_H
 #define CHECK_CLIENT_H
 
@@ -79,19 +79,28 @@ int file_exists(const char *path);
 // The store that holds the bitmap of upload_bitmap and nothing else.
 int store_has_bitmap(const char *path, uint8_t n);
 
-// Black are these rectangles, each from its upper left to its lower right pixel, and nothing else.
-void check_picture(const char *file, int line, Picture got, const unsigned (*rectangles)[4], size_t count);
+enum { LOW = DISPLAY_LOW_HEIGHT, TALL = DISPLAY_TALL_HEIGHT };
+
+// It is so high, and black are these rectangles, each from its upper left to its lower right pixel, and nothing else.
+void check_picture(const char *file, int line, const Picture *got, unsigned height, const unsigned (*rectangles)[4],
+                   size_t count);
 #define RECTANGLES(...) \
     (const unsigned[][4]){__VA_ARGS__}, sizeof(const unsigned[][4]){__VA_ARGS__} / (4 * sizeof(unsigned))
-#define CHECK_PICTURE(got, ...) check_picture(__FILE__, __LINE__, got, RECTANGLES(__VA_ARGS__))
+#define CHECK_PICTURE(got, height, ...) check_picture(__FILE__, __LINE__, got, height, RECTANGLES(__VA_ARGS__))
 
-void check_png(const char *file, int line, const char *path, const unsigned (*rectangles)[4], size_t count);
-#define CHECK_PNG(path, ...) check_png(__FILE__, __LINE__, path, RECTANGLES(__VA_ARGS__))
+void check_png(const char *file, int line, const char *path, unsigned height, const unsigned (*rectangles)[4],
+               size_t count);
+#define CHECK_PNG(path, height, ...) check_png(__FILE__, __LINE__, path, height, RECTANGLES(__VA_ARGS__))
 
-// The picture at the start of a text. What follows it, or null where the text is no picture.
-const char *read_braille(const char *text, Picture picture);
-const char *read_blocks(const char *text, Picture picture);
+// The picture at the start of a text, as high as it has rows. What follows it, or null where the text is no picture.
+const char *read_braille(const char *text, Picture *picture);
+const char *read_blocks(const char *text, Picture *picture);
 
+// A simulator has ended well: a picture in braille and this status behind it.
+void check_ending(const char *file, int line, unsigned height, const char *status_line);
+#define CHECK_ENDING(height, status_line) check_ending(__FILE__, __LINE__, height, status_line)
+
+void check_heights(void);
 void check_ends(void);
 
 #endif

@@ -27,12 +27,20 @@ static void check_fails(const char *file, int line, int how, int status, const c
 
 static void check_usage(void)
 {
+    static const char *const heights[] = {"", "0", "63", "65", "127", "129", "256", "320", "064", "0128", "+64", " 64",
+                                          "128 ", "128x", "64.0", "-128", "0x40", "4294967360", "low", "--png"};
+    size_t i;
     Run run;
     FAILS(PLAINLY, 2, "no such option: --colour", "--colour");
     FAILS(PLAINLY, 2, "no such option: stream", "stream");
     FAILS(PLAINLY, 2, "a file must follow --png", "--png");
     FAILS(PLAINLY, 2, "a file must follow --store", "--blocks", "--store");
     FAILS(PLAINLY, 2, "a file must follow --replay", "--replay");
+    FAILS(PLAINLY, 2, "64 or 128 must follow --height", "--height");
+    for (i = 0; i < sizeof heights / sizeof *heights; i++) {
+        FAILS(PLAINLY, 2, "the height must be 64 or 128, not ", "--height", heights[i]);
+        CHECK_CONTAINS(ending.err, heights[i]);
+    }
     FAILS(OUT_CLOSED, 1, "standard output is closed", "--blocks");
     FAILS(PLAINLY, 1, "cannot read missing: No such file", "--replay", "missing");
     FAILS(PLAINLY, 1, "cannot read folder: Is a directory", "--replay", "folder");
@@ -40,6 +48,7 @@ static void check_usage(void)
     finish(&run);
     CHECK("exit status", 0, ending.status);
     CHECK_CONTAINS(ending.out, "usage: simulator");
+    CHECK_CONTAINS(ending.out, "--height ROWS");
 }
 
 // Temporary files, which have six characters behind a point.
@@ -147,8 +156,8 @@ static void check_two_runs(void)
     end_by(&run, SIGTERM);
     CHECK("exit status", 0, ending.status);
     CHECK("nothing on standard error", 0, ending.err[0]);
-    CHECK("picture", 1, read_braille(ending.out, picture) != NULL);
-    CHECK_PICTURE(picture, {10, 20, 10, 20}, {12, 20, 12, 20});
+    CHECK("picture", 1, read_braille(ending.out, &picture) != NULL);
+    CHECK_PICTURE(&picture, LOW, {10, 20, 10, 20}, {12, 20, 12, 20});
     CHECK("store after the second run", 1, store_has_bitmap("files", 9));
     CHECK("link is still one", 1, lstat("link", &status) == 0 && S_ISLNK(status.st_mode));
     CHECK("mode of the store", 0640, stat("files", &status) == 0 ? (long)(status.st_mode & 0777) : -1);
@@ -179,7 +188,7 @@ static void check_saved(int status)
 {
     CHECK("exit status", status, ending.status);
     CHECK("store saved", 1, file_is("store", spoilt, sizeof spoilt));
-    CHECK_PNG("end.png", {0, 0, 0, 0});
+    CHECK_PNG("end.png", LOW, {0, 0, 0, 0});
 }
 
 static void check_signals(void)

@@ -4,10 +4,12 @@
 #include <stdio.h>
 #include <string.h>
 
-enum { SCALE = 3, MARGIN = 12, WIDTH = 744, HEIGHT = 216, LINE = 94 };
+// A file is as high as one of the two glasses, enlarged, and two margins.
+enum { SCALE = 3, MARGIN = 12, WIDTH = 744, LOW_HEIGHT = 216, TALL_HEIGHT = 408, LINE = 94 };
 
 static uint8_t file[1 << 17], data[1 << 17];
 static size_t file_length, data_length;
+static uint32_t height; // of the file
 
 static uint32_t number(const uint8_t *bytes)
 {
@@ -29,10 +31,19 @@ static uint32_t crc(const uint8_t *bytes, size_t count)
     return ~turned;
 }
 
+// Width, height, one bit of grey, and 0 for compression, filter and interlace.
+static int read_header(const uint8_t *type, size_t length)
+{
+    static const uint8_t depth[] = {1, 0, 0, 0, 0};
+    if (length != 13 || memcmp(type, "IHDR", 4) != 0 || number(type + 4) != WIDTH)
+        return 0;
+    height = number(type + 8);
+    return (height == LOW_HEIGHT || height == TALL_HEIGHT) && memcmp(type + 12, depth, sizeof depth) == 0;
+}
+
 // The chunks must be IHDR, IDAT.., IEND. Leaves the data of all IDAT in `data`.
 static const char *read_chunks(void)
 {
-    static const uint8_t header[] = {'I', 'H', 'D', 'R', 0, 0, WIDTH >> 8, WIDTH & 255, 0, 0, 0, HEIGHT, 1, 0, 0, 0, 0};
     size_t at = 8, length;
     int chunks = 0;
     data_length = 0;
@@ -43,7 +54,7 @@ static const char *read_chunks(void)
             return "a chunk is longer than the file";
         if (crc(type, length + 4) != number(type + 4 + length))
             return "wrong CRC";
-        if (chunks == 0 && (length != 13 || memcmp(type, header, sizeof header) != 0))
+        if (chunks == 0 && !read_header(type, length))
             return "wrong header";
         if (memcmp(type, "IEND", 4) == 0)
             return length == 0 && at + 12 == file_length && chunks > 1 ? NULL : "wrong end";
@@ -81,7 +92,7 @@ static const char *unpack(void)
     }
     if (at + 4 != data_length || number(data + at) != (b << 16 | a))
         return "wrong Adler-32";
-    return lines == HEIGHT * LINE ? NULL : "wrong number of lines";
+    return lines == height * LINE ? NULL : "wrong number of lines";
 }
 
 static unsigned is_black(unsigned x, unsigned y)
@@ -90,15 +101,16 @@ static unsigned is_black(unsigned x, unsigned y)
 }
 
 // Every pixel of a square and of the margin must agree.
-static const char *shrink(Picture picture)
+static const char *shrink(Picture *picture)
 {
     unsigned x, y;
-    for (y = 0; y < HEIGHT; y++) {
+    picture->height = (height - 2 * MARGIN) / SCALE;
+    for (y = 0; y < height; y++) {
         if (data[y * LINE] != 0)
             return "a line is filtered";
         for (x = 0; x < WIDTH; x++) {
-            int inside = x >= MARGIN && x < WIDTH - MARGIN && y >= MARGIN && y < HEIGHT - MARGIN;
-            uint8_t *pixel = inside ? &picture[(y - MARGIN) / SCALE][(x - MARGIN) / SCALE] : NULL;
+            int inside = x >= MARGIN && x < WIDTH - MARGIN && y >= MARGIN && y < height - MARGIN;
+            uint8_t *pixel = inside ? &picture->pixels[(y - MARGIN) / SCALE][(x - MARGIN) / SCALE] : NULL;
             if (!inside && is_black(x, y))
                 return "the margin is not white";
             if (inside && (x - MARGIN) % SCALE == 0 && (y - MARGIN) % SCALE == 0)
@@ -110,7 +122,7 @@ static const char *shrink(Picture picture)
     return NULL;
 }
 
-const char *read_png(const char *path, Picture picture)
+const char *read_png(const char *path, Picture *picture)
 {
     const char *wrong;
     FILE *stream = fopen(path, "rb");

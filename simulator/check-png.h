@@ -4,9 +4,12 @@
 
 #include "display.h"
 
-typedef uint8_t Picture[DISPLAY_HEIGHT][DISPLAY_WIDTH]; // 1 is black
+typedef struct {
+    unsigned height;
+    uint8_t pixels[DISPLAY_TALL_HEIGHT][DISPLAY_WIDTH]; // 1 is black
+} Picture;
 
-// A null pointer, or what is wrong with the file.
-const char *read_png(const char *path, Picture picture);
+// A null pointer, or what is wrong with the file. Its header says how high the picture is.
+const char *read_png(const char *path, Picture *picture);
 
 #endif

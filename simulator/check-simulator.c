@@ -14,15 +14,6 @@
 #include <termios.h>
 #include <unistd.h>
 
-static void check_ending(const char *status_line)
-{
-    static Picture picture;
-    const char *status = read_braille(ending.out, picture);
-    CHECK("exit status", 0, ending.status);
-    CHECK("escape sequences", 0, strchr(ending.out, '\033') != NULL);
-    CHECK_CONTAINS(status == NULL ? "no picture" : status, status_line);
-}
-
 // Serial number, uploads accepted and refused. The first client leaves the terminal's settings alone, and they must do;
 // the second finds the display as the first left it.
 static void check_wire(void)
@@ -45,10 +36,10 @@ static void check_wire(void)
     EXPECT(line, 18, 52);
     close(line);
     end_by(&run, SIGTERM);
-    check_ending("contrast 128, backlight on, refused 2, last refusal 25, lost 0\n");
+    CHECK_ENDING(LOW, "contrast 128, backlight on, refused 2, last refusal 25, lost 0\n");
     CHECK("nothing on standard error", 0, ending.err[0]);
-    read_braille(ending.out, picture);
-    CHECK_PICTURE(picture, {10, 20, 10, 20}, {12, 20, 12, 20});
+    read_braille(ending.out, &picture);
+    CHECK_PICTURE(&picture, LOW, {10, 20, 10, 20}, {12, 20, 12, 20});
 }
 
 // An upload of every byte there is: none of them may be eaten or changed on the way.
@@ -68,7 +59,7 @@ static void check_every_byte(void)
     settle(line);
     close(line);
     end_by(&run, SIGINT);
-    check_ending("contrast 200, backlight on for 5 min, refused 0, last refusal 0, lost 0\n");
+    CHECK_ENDING(LOW, "contrast 200, backlight on for 5 min, refused 0, last refusal 0, lost 0\n");
 }
 
 // Writes until the line has taken nothing for a while, then reads as well until all replies are there.
@@ -126,7 +117,7 @@ static void check_burst(void)
     settle(line);
     close(line);
     end_by(&run, SIGTERM);
-    check_ending("refused 0, last refusal 0, lost 0\n");
+    CHECK_ENDING(LOW, "refused 0, last refusal 0, lost 0\n");
 }
 
 static void check_png_files(void)
@@ -138,20 +129,20 @@ static void check_png_files(void)
     settle(line);
     kill(run.id, SIGUSR1);
     CHECK_CONTAINS(read_until(run.err, "\n"), "wrote picture.png");
-    CHECK_PNG("picture.png", {0, 0, 0, 0}, {239, 63, 239, 63});
+    CHECK_PNG("picture.png", LOW, {0, 0, 0, 0}, {239, 63, 239, 63});
     SEND(line, 254, 120, 1, 2, 1, 4, 2);
     settle(line);
-    CHECK_PNG("picture.png", {0, 0, 0, 0}, {239, 63, 239, 63});
+    CHECK_PNG("picture.png", LOW, {0, 0, 0, 0}, {239, 63, 239, 63});
     end_by(&run, SIGTERM);
     close(line);
-    check_ending("refused 0");
-    CHECK_PNG("picture.png", {0, 0, 0, 0}, {239, 63, 239, 63}, {2, 1, 4, 2});
+    CHECK_ENDING(LOW, "refused 0");
+    CHECK_PNG("picture.png", LOW, {0, 0, 0, 0}, {239, 63, 239, 63}, {2, 1, 4, 2});
 
     run = START_NAMED(PLAINLY, NULL);
     kill(run.id, SIGUSR1);
     CHECK_CONTAINS(read_until(run.err, "\n"), "no --png FILE");
     end_by(&run, SIGTERM);
-    check_ending("refused 0");
+    CHECK_ENDING(LOW, "refused 0");
 }
 
 // A solid rectangle, and what the status line says; then a frame with half blocks.
@@ -163,19 +154,19 @@ static void check_replay(void)
     write_file("stream", BYTES(254, 120, 1, 2, 1, 4, 2, 254, 80, 7, 254, 70, 254, 1));
     run = START(PLAINLY, "--replay", "stream", "--png", "replay.png");
     finish(&run);
-    check_ending("contrast 7, backlight off, refused 1, last refusal 16, lost 0\n");
+    CHECK_ENDING(LOW, "contrast 7, backlight off, refused 1, last refusal 16, lost 0\n");
     CHECK("nothing on standard error", 0, ending.err[0]);
-    read_braille(ending.out, picture);
-    CHECK_PICTURE(picture, {2, 1, 4, 2});
-    CHECK_PNG("replay.png", {2, 1, 4, 2});
+    read_braille(ending.out, &picture);
+    CHECK_PICTURE(&picture, LOW, {2, 1, 4, 2});
+    CHECK_PNG("replay.png", LOW, {2, 1, 4, 2});
 
     write_file("stream", BYTES(254, 114, 1, 0, 0, 239, 63, 254, 120, 1, 5, 5, 8, 7));
     run = START(PLAINLY, "--blocks", "--replay", "stream");
     finish(&run);
     CHECK("exit status", 0, ending.status);
-    status = read_blocks(ending.out, picture);
+    status = read_blocks(ending.out, &picture);
     CHECK_CONTAINS(status == NULL ? "no picture" : status, "contrast 128, backlight on, refused 0");
-    CHECK_PICTURE(picture, {0, 0, 239, 0}, {0, 63, 239, 63}, {0, 0, 0, 63}, {239, 0, 239, 63}, {5, 5, 8, 7});
+    CHECK_PICTURE(&picture, LOW, {0, 0, 239, 0}, {0, 63, 239, 63}, {0, 0, 0, 63}, {239, 0, 239, 63}, {5, 5, 8, 7});
 }
 
 // More than the queue holds, from standard input: 1,000 pixels.
@@ -190,9 +181,9 @@ static void check_long_replay(void)
     write_file("stream", stream, sizeof stream);
     run = START(FROM_STREAM, "--replay", "-");
     finish(&run);
-    check_ending("refused 0, last refusal 0, lost 0\n");
-    read_braille(ending.out, picture);
-    CHECK_PICTURE(picture, {0, 0, 199, 4});
+    CHECK_ENDING(LOW, "refused 0, last refusal 0, lost 0\n");
+    read_braille(ending.out, &picture);
+    CHECK_PICTURE(&picture, LOW, {0, 0, 199, 4});
 }
 
 static struct termios settings_of(int terminal)
@@ -219,7 +210,7 @@ static void check_live(void)
     CHECK_CONTAINS(read_until(run.out, "\xE2\xA0\x81"), "\xE2\xA0\x81");
     CHECK("key p", 1, (long)write(window, "p", 1));
     CHECK_CONTAINS(read_until(run.out, "wrote live.png"), "wrote live.png");
-    CHECK_PNG("live.png", {0, 0, 0, 0});
+    CHECK_PNG("live.png", LOW, {0, 0, 0, 0});
     CHECK("window made smaller", 0, ioctl(window, TIOCSWINSZ, &small));
     CHECK_CONTAINS(read_until(run.out, "[needs 120 by 17]"), "[needs 120 by 17]");
     CHECK("key q", 1, (long)write(window, "q", 1));
@@ -247,7 +238,7 @@ static void check_keys(void)
     CHECK_CONTAINS(read_until(run.err, "\n"), "wrote keys.png");
     CHECK("key q", 1, (long)write(run.window, "q", 1));
     finish(&run);
-    check_ending("contrast 128, backlight on, refused 0, last refusal 0, lost 0\n");
+    CHECK_ENDING(LOW, "contrast 128, backlight on, refused 0, last refusal 0, lost 0\n");
     close(run.window);
 }
 
@@ -268,6 +259,7 @@ int main(int count, char **arguments)
     check_long_replay();
     check_live();
     check_keys();
+    check_heights();
     check_ends();
     if (failures != 0)
         printf("check-simulator: %u failed\n", failures);

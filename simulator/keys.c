@@ -37,8 +37,39 @@ int keys_are_open(void)
     return are_open;
 }
 
+// Cursor and page keys send escape, then [ or O, then perhaps a number, and a letter or ~ at the end.
+static int key_of(unsigned char byte)
+{
+    enum { ESCAPE = 27 };
+    static enum { OUTSIDE, ESCAPED, INSIDE } place;
+    static unsigned number;
+    if (byte == ESCAPE) {
+        place = ESCAPED;
+        number = 0;
+        return KEY_NONE;
+    }
+    if (place == ESCAPED && (byte == '[' || byte == 'O')) {
+        place = INSIDE;
+        return KEY_NONE;
+    }
+    if (place != INSIDE) {
+        place = OUTSIDE;
+        return byte;
+    }
+    if (byte < '@') {
+        number = 10 * number + byte - '0';
+        return KEY_NONE;
+    }
+    place = OUTSIDE;
+    if (byte == 'A' || byte == 'B')
+        return byte == 'A' ? KEY_UP : KEY_DOWN;
+    if (byte == '~' && (number == 5 || number == 6))
+        return number == 5 ? KEY_PAGE_UP : KEY_PAGE_DOWN;
+    return KEY_NONE;
+}
+
 int keys_read(void)
 {
-    unsigned char key;
-    return read(STDIN_FILENO, &key, 1) == 1 ? key : 'q';
+    unsigned char byte;
+    return read(STDIN_FILENO, &byte, 1) == 1 ? key_of(byte) : 'q';
 }

@@ -22,14 +22,14 @@ static void list_row(const uint8_t *row, unsigned y)
 int main(int count, char **arguments)
 {
     static Picture picture;
-    const char *wrong = count == 2 ? read_png(arguments[1], picture) : "one file must be given";
+    const char *wrong = count == 2 ? read_png(arguments[1], &picture) : "one file must be given";
     unsigned y;
     if (wrong != NULL) {
         fprintf(stderr, "list-png: %s\n", wrong);
         return 1;
     }
-    printf("glass %u %u\n", DISPLAY_WIDTH, DISPLAY_HEIGHT);
-    for (y = 0; y < DISPLAY_HEIGHT; y++)
-        list_row(picture[y], y);
+    printf("glass %u %u\n", DISPLAY_WIDTH, picture.height);
+    for (y = 0; y < picture.height; y++)
+        list_row(picture.pixels[y], y);
     return 0;
 }

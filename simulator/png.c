@@ -8,15 +8,16 @@ enum {
     SCALE = 3,
     MARGIN = 12,
     WIDTH = DISPLAY_WIDTH * SCALE + 2 * MARGIN,
-    HEIGHT = DISPLAY_HEIGHT * SCALE + 2 * MARGIN,
     LINE = 1 + (WIDTH + 7) / 8, // a filter byte ahead of each line
-    LINES = HEIGHT * LINE       // 65,535 at most
+    MOST = (DISPLAY_TALL_HEIGHT * SCALE + 2 * MARGIN) * LINE
 };
+
+typedef char lines_fit_into_a_stored_block[MOST <= 65535 ? 1 : -1];
 
 static const uint8_t signature[8] = {0x89, 'P', 'N', 'G', '\r', '\n', 0x1A, '\n'};
 
 // The file as it grows.
-static uint8_t file[LINES + 128];
+static uint8_t file[MOST + 128];
 static size_t length;
 
 static void put(const void *bytes, size_t count)
@@ -70,11 +71,16 @@ static void end_chunk(size_t count)
     put_number(crc32(file + length - count - 4, count + 4));
 }
 
-static void put_header(void)
+static unsigned lines_of(unsigned height)
+{
+    return height * SCALE + 2 * MARGIN;
+}
+
+static void put_header(unsigned height)
 {
     begin_chunk("IHDR", 13);
     put_number(WIDTH);
-    put_number(HEIGHT);
+    put_number(lines_of(height));
     put("\x01\0\0\0\0", 5); // one bit, greyscale, and the only ways to compress, filter and order lines
     end_chunk(13);
 }
@@ -88,28 +94,29 @@ static void blacken(uint8_t *lines, unsigned column, unsigned row)
             lines[y * LINE + 1 + x / 8] &= (uint8_t)~(0x80 >> x % 8);
 }
 
-static void put_lines(const uint8_t *framebuffer)
+static void put_lines(const uint8_t *framebuffer, unsigned height)
 {
     uint8_t *lines = file + length;
     unsigned column, row;
-    memset(lines, 0xFF, LINES);
-    for (row = 0; row < HEIGHT; row++)
+    memset(lines, 0xFF, lines_of(height) * LINE);
+    for (row = 0; row < lines_of(height); row++)
         lines[row * LINE] = 0;
-    for (row = 0; row < DISPLAY_HEIGHT; row++)
+    for (row = 0; row < height; row++)
         for (column = 0; column < DISPLAY_WIDTH; column++)
             if (framebuffer[row * DISPLAY_STRIDE + column / 8] >> (7 - column % 8) & 1)
                 blacken(lines, column, row);
-    length += LINES;
+    length += lines_of(height) * LINE;
 }
 
-static void put_data(const uint8_t *framebuffer)
+static void put_data(const uint8_t *framebuffer, unsigned height)
 {
-    static const uint8_t zlib[] = {0x78, 0x01, 1, LINES & 255, LINES >> 8, ~LINES & 255, ~LINES >> 8 & 255};
-    size_t count = sizeof zlib + LINES + 4;
+    unsigned lines = lines_of(height) * LINE;
+    const uint8_t zlib[] = {0x78, 0x01, 1, lines & 255, lines >> 8 & 255, ~lines & 255, ~lines >> 8 & 255};
+    size_t count = sizeof zlib + lines + 4;
     begin_chunk("IDAT", count);
     put(zlib, sizeof zlib);
-    put_lines(framebuffer);
-    put_number(adler32(file + length - LINES, LINES));
+    put_lines(framebuffer, height);
+    put_number(adler32(file + length - lines, lines));
     end_chunk(count);
 }
 
@@ -125,14 +132,14 @@ int png_can_save(const char *path)
     return found < 0 ? -1 : file_can_save(path);
 }
 
-int png_save(const char *path, const uint8_t *framebuffer)
+int png_save(const char *path, const uint8_t *framebuffer, unsigned height)
 {
     if (png_can_save(path) < 0)
         return -1;
     length = 0;
     put(signature, sizeof signature);
-    put_header();
-    put_data(framebuffer);
+    put_header(height);
+    put_data(framebuffer, height);
     begin_chunk("IEND", 0);
     end_chunk(0);
     return file_save(path, file, length);

@@ -23,9 +23,10 @@ enum { FRAME_MILLISECONDS = 33, MESSAGE_SIZE = 256, LINE_SIZE = VIEW_STATUS_SIZE
 static int is_open, blocks;
 static char heading[MESSAGE_SIZE], message[MESSAGE_SIZE];
 static const char *keys = "";
+static unsigned first; // row of characters in the first line of the window
 
 // What was drawn last, and when.
-static uint8_t drawn[DISPLAY_FRAMEBUFFER_SIZE];
+static uint8_t drawn[PORT_FRAMEBUFFER_SIZE];
 static char drawn_line[LINE_SIZE];
 static struct winsize drawn_size;
 static struct timespec drawn_at;
@@ -94,15 +95,45 @@ static struct winsize window_size(void)
     return size;
 }
 
-// Of a picture that is larger than the window its upper left part is shown; the line below is always there.
-static int draw(const uint8_t *framebuffer, const char *line, struct winsize size)
+// Lines of the window for the picture; the last one has the status.
+static unsigned shown_rows(unsigned height, struct winsize size)
 {
-    static char frame[DISPLAY_HEIGHT / 2 * (VIEW_ROW_SIZE + 8) + LINE_SIZE + 32];
+    unsigned rows = view_rows(height, blocks), lines = size.ws_row - 1u;
+    return rows < lines ? rows : lines;
+}
+
+// A page ends with the line that the next one begins with.
+void screen_scroll(int key)
+{
+    unsigned page = drawn_size.ws_row > 3 ? drawn_size.ws_row - 2u : 1;
+    if (key == KEY_DOWN)
+        first++;
+    else if (key == KEY_PAGE_DOWN)
+        first += page;
+    else if (key == KEY_UP)
+        first -= first > 0;
+    else if (key == KEY_PAGE_UP)
+        first -= first < page ? first : page;
+}
+
+// No further than to the end of the picture.
+static void limit_scrolling(unsigned height, struct winsize size)
+{
+    unsigned most = view_rows(height, blocks) - shown_rows(height, size);
+    if (first > most)
+        first = most;
+}
+
+// Of a picture that is larger than the window its left part is shown, from the first row on that was scrolled to; the
+// line below is always there.
+static int draw(const Port *port, const char *line, struct winsize size)
+{
+    static char frame[DISPLAY_TALL_HEIGHT / 2 * (VIEW_ROW_SIZE + 8) + LINE_SIZE + 32];
     size_t length = 0, line_length = strlen(line);
-    unsigned row;
+    unsigned row, end = first + shown_rows(display_height(port->state), size);
     length += (size_t)sprintf(frame, HOME);
-    for (row = 0; row < view_rows(blocks) && row + 1 < size.ws_row; row++) {
-        length += view_row(frame + length, framebuffer, row, size.ws_col, blocks);
+    for (row = first; row < end; row++) {
+        length += view_row(frame + length, port->framebuffer, row, size.ws_col, blocks);
         length += (size_t)sprintf(frame + length, "%s\r\n", size.ws_col > view_columns(blocks) ? REST_OF_LINE : "");
     }
     if (line_length >= size.ws_col)
@@ -111,11 +142,24 @@ static int draw(const uint8_t *framebuffer, const char *line, struct winsize siz
     return write_out(frame, length);
 }
 
+// What the window lacks, and which rows of pixels it shows if not all. It stands ahead of the status, so that a narrow
+// window has it.
+static void make_need(char *need, size_t most, unsigned height, struct winsize size)
+{
+    unsigned rows = view_rows(height, blocks), shown = shown_rows(height, size), scale = view_scale(blocks);
+    int length = 0;
+    need[0] = '\0';
+    if (size.ws_col < view_columns(blocks) || shown < rows)
+        length = snprintf(need, most, "  [needs %u by %u]", view_columns(blocks), rows + 1);
+    if (0 < shown && shown < rows)
+        snprintf(need + length, most - (size_t)length, "  rows %u-%u%s", scale * first, scale * (first + shown) - 1,
+                 keys_are_open() ? ", up/down" : "");
+}
+
 static void make_line(char *line, const Port *port, struct winsize size)
 {
-    char status[VIEW_STATUS_SIZE], need[64] = "";
-    if (size.ws_col < view_columns(blocks) || size.ws_row <= view_rows(blocks))
-        snprintf(need, sizeof need, "  [needs %u by %u]", view_columns(blocks), view_rows(blocks) + 1);
+    char status[VIEW_STATUS_SIZE], need[64];
+    make_need(need, sizeof need, display_height(port->state), size);
     view_status(status, port);
     snprintf(line, LINE_SIZE, "%s%s%s%s  %s%s", heading, need, message[0] != '\0' ? "  " : "", message, status, keys);
 }
@@ -129,6 +173,7 @@ int screen_update(const Port *port, int *again)
     *again = -1;
     if (!is_open)
         return 0;
+    limit_scrolling(display_height(port->state), size);
     make_line(line, port, size);
     if (memcmp(drawn, port->framebuffer, sizeof drawn) == 0 && strcmp(drawn_line, line) == 0 &&
         size.ws_col == drawn_size.ws_col && size.ws_row == drawn_size.ws_row)
@@ -143,5 +188,5 @@ int screen_update(const Port *port, int *again)
     strcpy(drawn_line, line);
     drawn_size = size;
     drawn_at = now;
-    return draw(port->framebuffer, line, size);
+    return draw(port, line, size);
 }

@@ -74,7 +74,7 @@ static int start(PortSend *send)
     uint32_t answer;
     if (store_open(&store, options.store) < 0)
         return -1;
-    answer = port_start(&port, store.bytes, store.length, send, &terminal);
+    answer = port_start(&port, options.height, store.bytes, store.length, send, &terminal);
     if (answer == DISPLAY_BAD_STORE_SIZE)
         report("%s is no store: it must have %u to %u bytes", store.path, DISPLAY_STORE_LEAST, DISPLAY_STORE_MOST);
     else if (answer == DISPLAY_BAD_DIRECTORY)
@@ -142,7 +142,7 @@ static void save_png(void)
 {
     if (options.png == NULL)
         report("no --png FILE was given");
-    else if (png_save(options.png, port.framebuffer) == 0)
+    else if (png_save(options.png, port.framebuffer, options.height) == 0)
         report("wrote %s", options.png);
 }
 
@@ -164,6 +164,7 @@ static void wait_for_work(int milliseconds, const sigset_t *signals)
         int key = keys_read();
         ended |= key == 'q';
         png_wanted |= key == 'p';
+        screen_scroll(key);
     }
 }
 
@@ -231,7 +232,7 @@ static int finish(int failed)
     int shown = !failed;
     if (port.answer == DISPLAY_OK && store_save(&store) < 0)
         failed = 1;
-    if (shown && options.png != NULL && png_save(options.png, port.framebuffer) < 0)
+    if (shown && options.png != NULL && png_save(options.png, port.framebuffer, options.height) < 0)
         failed = 1;
     if (shown && !live && view_print(&port, options.blocks) < 0)
         failed = 1;

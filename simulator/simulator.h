@@ -13,6 +13,7 @@ enum { DONE = 0, FAILED = 1, MISUSED = 2 };
 
 typedef struct {
     const char *png, *store, *replay; // files, null where not asked for
+    uint32_t height;                  // rows of the glass
     int blocks;                       // half blocks and not braille
 } Options;
 
@@ -31,6 +32,9 @@ void screen_open(const char *name, const Options *options);
 
 void screen_close(void);
 
+// Where the picture is higher than the window, the cursor and page keys move it.
+void screen_scroll(int key);
+
 // Draws what has changed since the last time, if that is long enough ago. Sets `*again` to the milliseconds after which
 // it wants to be called anew, -1 for never. Fails, and reports nothing, where the terminal is gone.
 int screen_update(const Port *port, int *again);
@@ -44,13 +48,19 @@ void keys_close(void);
 
 int keys_are_open(void);
 
-// The key that was pressed; q where the terminal is gone.
+// Keys that are no character.
+enum { KEY_NONE = 256, KEY_UP, KEY_DOWN, KEY_PAGE_UP, KEY_PAGE_DOWN };
+
+// The key that was pressed, KEY_NONE in the midst of one that sends several bytes; q where the terminal is gone.
 int keys_read(void);
 
 // view.c: pixels as text
 
 unsigned view_columns(int blocks);
-unsigned view_rows(int blocks);
+unsigned view_rows(unsigned height, int blocks);
+
+// Rows of pixels in a row of characters.
+unsigned view_scale(int blocks);
 
 enum { VIEW_ROW_SIZE = 3 * DISPLAY_WIDTH, VIEW_STATUS_SIZE = 160 };
 
@@ -67,7 +77,7 @@ int view_print(const Port *port, int blocks);
 
 // Fails where png_save would: also for a file that is there and is no PNG.
 int png_can_save(const char *path);
-int png_save(const char *path, const uint8_t *framebuffer);
+int png_save(const char *path, const uint8_t *framebuffer, unsigned height);
 
 // files.c
 

@@ -10,9 +10,14 @@ unsigned view_columns(int blocks)
     return blocks ? DISPLAY_WIDTH : DISPLAY_WIDTH / 2;
 }
 
-unsigned view_rows(int blocks)
+unsigned view_scale(int blocks)
 {
-    return blocks ? DISPLAY_HEIGHT / 2 : DISPLAY_HEIGHT / 4;
+    return blocks ? 2 : 4;
+}
+
+unsigned view_rows(unsigned height, int blocks)
+{
+    return height / view_scale(blocks);
 }
 
 static unsigned pixel(const uint8_t *framebuffer, unsigned x, unsigned y)
@@ -68,7 +73,7 @@ int view_print(const Port *port, int blocks)
 {
     char text[VIEW_ROW_SIZE], status[VIEW_STATUS_SIZE];
     unsigned row;
-    for (row = 0; row < view_rows(blocks); row++) {
+    for (row = 0; row < view_rows(display_height(port->state), blocks); row++) {
         fwrite(text, 1, view_row(text, port->framebuffer, row, view_columns(blocks), blocks), stdout);
         putchar('\n');
     }

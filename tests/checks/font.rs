@@ -2,6 +2,7 @@
 
 use reference::builtin::{built_in_font, shapes};
 use reference::font::Font;
+use reference::glass::{HEIGHTS, LOW};
 use std::collections::HashSet;
 
 #[test]
@@ -20,7 +21,7 @@ fn header_table_and_length() {
         assert_eq!(font[4 + 3 * k..7 + 3 * k], [(offset / 256) as u8, (offset % 256) as u8, 5]);
     }
     assert_eq!(289 + 5 * 95, 764);
-    assert!(Font::open(&font).is_some());
+    assert!(HEIGHTS.iter().all(|&height| Font::open(&font, height).is_some()));
 }
 
 #[test]
@@ -68,7 +69,7 @@ fn shapes_and_digits_are_apart() {
 #[test]
 fn glyphs_are_the_drawn_shapes() {
     let bytes = built_in_font();
-    let font = Font::open(&bytes).unwrap();
+    let font = Font::open(&bytes, LOW).unwrap();
     for (number, rows) in shapes() {
         for (row, cells) in rows.iter().enumerate() {
             for (column, &black) in cells.iter().enumerate() {

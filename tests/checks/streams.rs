@@ -2,7 +2,8 @@
 
 use reference::builtin::built_in_font;
 use reference::coverage::Coverage;
-use reference::generator::{any_scene, fresh_scene, program_stream};
+use reference::generator::{any_scene, fresh_scene, height_of, program_stream};
+use reference::glass::{LOW, TALL};
 use reference::properties::{book_holds, check, cuts_agree, lists_hold, starving_agrees, SEEDS};
 use reference::shrink::shrink;
 
@@ -30,11 +31,13 @@ fn starving_changes_nothing() {
 fn a_seed_always_gives_the_same_stream() {
     let font = built_in_font();
     for seed in 0..20 {
-        assert_eq!(program_stream(&font, seed), program_stream(&font, seed));
+        let height = height_of(seed);
+        assert_eq!(program_stream(&font, height, seed), program_stream(&font, height, seed));
         assert_eq!(fresh_scene(&font, seed).stream, fresh_scene(&font, seed).stream);
         assert_eq!(any_scene(&font, seed).begin, any_scene(&font, seed).begin);
     }
-    assert_ne!(program_stream(&font, 1), program_stream(&font, 2));
+    assert_ne!(program_stream(&font, LOW, 1), program_stream(&font, LOW, 2));
+    assert_ne!(program_stream(&font, LOW, 1), program_stream(&font, TALL, 1));
 }
 
 #[test]

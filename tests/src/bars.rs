@@ -42,8 +42,8 @@ impl Bar {
 }
 
 /// The refusals that a bar's and a strip's corners can meet, 17 before 18.
-fn corners_refused(x1: u8, y1: u8, x2: u8, y2: u8) -> Option<u8> {
-    let off = !on_glass(x1, y1) || !on_glass(x2, y2);
+fn corners_refused(height: u8, x1: u8, y1: u8, x2: u8, y2: u8) -> Option<u8> {
+    let off = !on_glass(height, x1, y1) || !on_glass(height, x2, y2);
     let order = if is(M::BarCornersMayBeEqual) { x1 <= x2 && y1 <= y2 } else { x1 < x2 && y1 < y2 };
     if is(M::CornerOrderBeforeGlass) && !order {
         return Some(18);
@@ -61,7 +61,8 @@ impl Machine<'_> {
     /// 103: kept with value 0, nothing painted.
     pub fn bar_set_up(&mut self, a: &[u8]) -> Result<Footprint, u8> {
         let (n, side) = (a[0] as usize, a[1]);
-        let corners = corners_refused(a[2], a[3], a[4], a[5]);
+        let height = if is(M::BarMustBeAboveRow64) { 64 } else { self.state.height };
+        let corners = corners_refused(height, a[2], a[3], a[4], a[5]);
         if is(M::BarTypeBeforeNumber) && side > 3 {
             return Err(20);
         }
@@ -124,7 +125,8 @@ impl Machine<'_> {
 
     /// 106.
     pub fn strip_set_up(&mut self, a: &[u8]) -> Result<Footprint, u8> {
-        let corners = corners_refused(a[1], a[2], a[3], a[4]);
+        let height = if is(M::StripMustBeAboveRow64) { 64 } else { self.state.height };
+        let corners = corners_refused(height, a[1], a[2], a[3], a[4]);
         if is(M::StripCornersBeforeNumber) && corners.is_some() {
             return Err(corners.unwrap());
         }

@@ -2,7 +2,7 @@
 
 use crate::files::Files;
 use crate::footprint::Footprint;
-use crate::glass::{Glass, HEIGHT, WIDTH};
+use crate::glass::{Glass, WIDTH};
 use crate::machine::{BarEvent, Step, Subject};
 use crate::state::{Bar, State};
 
@@ -83,7 +83,7 @@ impl Book {
         let touched = step.outcome.clone().unwrap_or(Footprint::Nothing);
         let changed = changed(&self.before.glass, glass);
         if !changed.is_empty() {
-            let cover = touched.cover();
+            let cover = touched.cover(state.height as usize);
             if let Some((x, y)) = changed.iter().find(|&&(x, y)| !cover[y * WIDTH + x]) {
                 return Err(format!("pixel {x} {y} changed outside the footprint of {:?}", step.subject));
             }
@@ -92,7 +92,7 @@ impl Book {
             self.refusal_changes_nothing_else(step, files, state)?;
         }
         self.write_is_thrifty(step, &changed)?;
-        self.enter(step, &touched);
+        self.enter(step, &touched, state.height as usize);
         if !changed.is_empty() || step.bar.is_some() {
             self.sure_bars_are_whole(glass)?;
         }
@@ -147,7 +147,7 @@ impl Book {
         Ok(())
     }
 
-    fn enter(&mut self, step: &Step, touched: &Footprint) {
+    fn enter(&mut self, step: &Step, touched: &Footprint, rows: usize) {
         let own = match step.bar {
             Some(BarEvent::SetUp { number, bar }) => {
                 self.bars[number] = Some(Entry { value: 0, ..Entry::new(&bar) });
@@ -164,7 +164,7 @@ impl Book {
         if *touched == Footprint::Nothing || self.bars.iter().flatten().all(|entry| !entry.sure) {
             return;
         }
-        let cover = touched.cover();
+        let cover = touched.cover(rows);
         for (number, entry) in self.bars.iter_mut().enumerate() {
             if let Some(entry) = entry.as_mut().filter(|entry| entry.sure && number != own) {
                 entry.sure = !entry.pixels().any(|(x, y)| cover[y * WIDTH + x]);
@@ -193,7 +193,7 @@ fn changed(before: &Glass, after: &Glass) -> Vec<(usize, usize)> {
         return Vec::new();
     }
     let mut all = Vec::new();
-    for y in 0..HEIGHT {
+    for y in 0..after.rows() {
         for x in 0..WIDTH {
             if before.get(x, y) != after.get(x, y) {
                 all.push((x, y));

@@ -2,29 +2,12 @@
 
 use crate::board::Board;
 use crate::book::Book;
+use crate::calls_refused::refused_calls;
 use crate::coverage::Coverage;
-use crate::feed::{feed, start, Fed};
+use crate::feed::Fed;
 use crate::generator::Scene;
-use crate::glass::Glass;
 use crate::prng::Prng;
-use crate::queue::{arrive, take};
-use crate::state::{Kind, Upload};
 use std::collections::VecDeque;
-
-/// How the memory of a call between may be bad.
-#[derive(Clone, Copy, Debug, PartialEq, Eq)]
-enum Fault {
-    Glass,
-    Store,
-    Length,
-    Unsound,
-    Thresholds,
-    Directory,
-    Upload,
-}
-
-const FAULTS: [Fault; 7] =
-    [Fault::Glass, Fault::Store, Fault::Length, Fault::Unsound, Fault::Thresholds, Fault::Directory, Fault::Upload];
 
 /// Runs the stream as a list of calls; the end must be that of one straight call.
 pub fn run_list(scene: &Scene, stream: &[u8], coverage: &mut Coverage) -> Result<(), String> {
@@ -48,7 +31,7 @@ pub fn run_list(scene: &Scene, stream: &[u8], coverage: &mut Coverage) -> Result
             }
             6 => arrivals(&mut board, &mut rng, &mut waiting, coverage)?,
             7 => takes(&mut board, &mut rng, &mut waiting, coverage)?,
-            _ => refused_call(&board, left, &mut rng, coverage)?,
+            _ => refused_calls(&board, left, &mut rng, coverage)?,
         }
     }
     if (&board.glass, &board.store, &board.state) != (&straight.glass, &straight.store, &straight.state) {
@@ -130,82 +113,6 @@ fn same_but_queue(before: &Board, after: &Board) -> Result<(), String> {
     expected.queue = after.queue.clone();
     if expected != *after {
         return Err("an arrival or a take changed more than the queue".into());
-    }
-    Ok(())
-}
-
-/// A call on a copy with bad memory: the answer, and nothing changed.
-fn refused_call(board: &Board, piece: &[u8], rng: &mut Prng, coverage: &mut Coverage) -> Result<(), String> {
-    let fault = rng.pick(&FAULTS);
-    let mut bad = board.clone();
-    spoil(&mut bad, fault, rng);
-    let before = bad.clone();
-    let mut state = (fault != Fault::Length).then_some(bad.state.clone());
-    let fed = feed(&bad.font, &mut bad.glass, &mut bad.store, state.as_mut(), piece, 100);
-    let expected = match fault {
-        Fault::Glass => 1,
-        Fault::Store => 2,
-        Fault::Length | Fault::Unsound | Fault::Thresholds => 3,
-        Fault::Directory | Fault::Upload => 4,
-    };
-    coverage.answer("feed", fed.answer);
-    if (fed.answer, fed.consumed) != (expected, 0) || bad != before || state.is_some_and(|s| s != before.state) {
-        return Err(format!("feeding with {fault:?} answers {}", fed.answer));
-    }
-    queue_calls_refused(&bad, fault, coverage)?;
-    start_on(&bad, fault, coverage)
-}
-
-fn spoil(bad: &mut Board, fault: Fault, rng: &mut Prng) {
-    match fault {
-        Fault::Glass => bad.glass = Glass::from_bytes(&vec![3; rng.pick(&[0, 1919, 1921, 3840])]),
-        Fault::Store => bad.store.resize(rng.pick(&[0, 100, 1023, 32769, 40000]), 0),
-        Fault::Length => {}
-        Fault::Unsound => bad.state.text.x = 496,
-        Fault::Thresholds => (bad.state.full, bad.state.empty) = (rng.pick(&[40, 80, 255]), rng.pick(&[40, 80])),
-        Fault::Directory => bad.store[rng.pick(&[252, 255])] = 7,
-        Fault::Upload => {
-            (bad.state.gathering, bad.state.inline) = (None, None);
-            let number = rng.pick(&[1, 20]);
-            let size = if number == 1 { 5 } else { 40000 };
-            bad.state.upload = Some(Upload { kind: Kind::Font, number, size, stored: 2, echoed: None });
-        }
-    }
-}
-
-fn queue_calls_refused(bad: &Board, fault: Fault, coverage: &mut Coverage) -> Result<(), String> {
-    let state = (fault != Fault::Length).then_some(&bad.state);
-    let mut queue = bad.queue.clone();
-    let refused = matches!(fault, Fault::Length | Fault::Unsound | Fault::Thresholds);
-    let arrived = arrive(state, Some(&mut queue), 1);
-    coverage.answer("arrive", arrived.answer);
-    let between = queue.clone();
-    let taken = take(state, Some(&mut queue));
-    coverage.answer("take", taken.answer);
-    if (arrived.answer == 3) != refused || (taken.answer == 3) != refused {
-        return Err(format!("arriving and taking with {fault:?} answer {} {}", arrived.answer, taken.answer));
-    }
-    if refused && (between != bad.queue || queue != bad.queue) {
-        return Err("a refused arrival or take changed the queue".into());
-    }
-    Ok(())
-}
-
-/// Start minds lengths and the directory only.
-fn start_on(bad: &Board, fault: Fault, coverage: &mut Coverage) -> Result<(), String> {
-    let expected = match fault {
-        Fault::Glass => 1,
-        Fault::Store => 2,
-        Fault::Length => 3,
-        Fault::Directory => 4,
-        _ => 0,
-    };
-    let mut after = bad.clone();
-    let mut queue = (fault != Fault::Length).then_some(after.queue.clone());
-    let answer = start(&mut after.glass, &after.store, Some(&mut after.state), queue.as_mut());
-    coverage.answer("start", answer);
-    if answer != expected || (answer != 0 && after != *bad) {
-        return Err(format!("starting with {fault:?} answers {answer}"));
     }
     Ok(())
 }

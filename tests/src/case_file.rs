@@ -1,20 +1,24 @@
 //! The named cases: bytes in, listing out, in a text a person can read.
 //!
-//! `#` at the start of a line is a comment. After `in:` a line holds decimal
-//! bytes, or begins with one of
+//! `#` at the start of a line is a comment. Before `in:` may stand `height 128`,
+//! for the tall glass; without it the glass is the low one. After `in:` a line
+//! holds decimal bytes, or begins with one of
 //!   text "..."            the characters between the quotes
 //!   repeat N: items       the items N times over
 //!   upload font N: bytes  command 36 (or 94 for `bitmap`) with the bytes, each confirmed
 //! and may hold `{N x items}`, N times the items, or `{N from F: items}`, where
 //! `#` stands for F, F+1 and so on. After `out:` follows the exact listing, in
-//! which `{N x "text"}` is N times the text.
+//! which `{N x "text"}` is N times the text, and `A to B: runs` is the same line
+//! for each row from A to B.
 
+use crate::glass::{LOW, TALL};
 use std::fs;
 use std::path::{Path, PathBuf};
 
 #[derive(Clone, Debug)]
 pub struct Case {
     pub name: String,
+    pub height: u8,
     pub input: Vec<u8>,
     pub expected: String,
 }
@@ -48,19 +52,21 @@ fn read(folder: &Path, path: &Path) -> Case {
     let text = fs::read_to_string(path).expect("a case");
     let mut input = Vec::new();
     let mut expected = String::new();
+    let mut height = LOW;
     let mut part = "";
     for line in text.lines() {
         match (part, line) {
             (_, "in:") => part = "in",
+            ("", "height 128") => height = TALL,
             ("in", "out:") => part = "out",
-            ("out", _) => expected += &format!("{}\n", spread_text(line)),
+            ("out", _) => expected += &spread_rows(&spread_text(line)),
             (_, _) if line.starts_with('#') || line.trim().is_empty() => {}
             ("in", _) => input.extend(line_bytes(line).unwrap_or_else(|| panic!("{name}: cannot read {line:?}"))),
             _ => panic!("{name}: {line:?} before in:"),
         }
     }
     assert!(part == "out", "{name} has no out:");
-    Case { name, input, expected }
+    Case { name, height, input, expected }
 }
 
 fn line_bytes(line: &str) -> Option<Vec<u8>> {
@@ -119,6 +125,18 @@ fn numbers(text: &str) -> Option<Vec<u8>> {
 
 fn plain(text: &str) -> Option<Vec<u8>> {
     text.split_whitespace().map(|word| word.parse().ok()).collect()
+}
+
+/// `A to B: runs` as one line a row; any other line as it is.
+fn spread_rows(line: &str) -> String {
+    let span = line.split_once(": ").and_then(|(rows, runs)| {
+        let (first, last) = rows.split_once(" to ")?;
+        Some((first.parse::<usize>().ok()?..=last.parse().ok()?, runs))
+    });
+    match span {
+        Some((rows, runs)) => rows.map(|row| format!("{row}: {runs}\n")).collect(),
+        None => format!("{line}\n"),
+    }
 }
 
 fn spread_text(line: &str) -> String {

@@ -1,14 +1,13 @@
-//! The answers 0 to 5 of start and feed, and their order.
+//! The answers 0 to 5 of feed, and their order.
 
 use crate::board::Board;
 use crate::builtin::built_in_font;
-use crate::feed::{feed, start};
-use crate::glass::Glass;
-use crate::queue::Queue;
-use crate::state::{Bar, Gathering, Inline, Kind, State, Upload};
+use crate::feed::feed;
+use crate::glass::{Glass, LOW};
+use crate::state::{Gathering, Kind, Lent, Upload};
 
 fn board(size: usize) -> Board {
-    Board::fresh(&built_in_font(), vec![0; size])
+    Board::fresh(&built_in_font(), LOW, vec![0; size])
 }
 
 /// Feeds and wants a refusal that changes nothing.
@@ -43,7 +42,7 @@ checks! {
 
     fn record_of_the_wrong_length() {
         let mut board = board(1024);
-        let fed = feed(&board.font, &mut board.glass, &mut board.store, None, &[], 9);
+        let fed = feed(&board.font, &mut board.glass, &mut board.store, Lent::WrongLength, &[], 9);
         assert_eq!(fed.answer, 3);
     }
 
@@ -203,57 +202,6 @@ checks! {
         board.store[256 + 8] = 10;
         board.feed(b"A", 2);
         assert_eq!((board.state.refusals, board.state.text.x), (1, 2));
-    }
-
-    fn start_answers_in_order() {
-        let mut glass = Glass::from_bytes(&[0; 1919]);
-        let mut state = State::at_start();
-        let mut queue = Queue::at_start();
-        assert_eq!(start(&mut glass, &[9; 10], None, None), 1);
-        let mut glass = Glass::from_bytes(&[255; 1920]);
-        assert_eq!(start(&mut glass, &[9; 1023], None, None), 2);
-        assert_eq!(start(&mut glass, &[9; 1024], None, Some(&mut queue)), 3);
-        assert_eq!(start(&mut glass, &[9; 1024], Some(&mut state), None), 3);
-        assert_eq!(start(&mut glass, &[9; 1024], Some(&mut state), Some(&mut queue)), 4);
-        assert_eq!(glass, Glass::from_bytes(&[255; 1920]));
-        assert_eq!(start(&mut glass, &[0; 1024], Some(&mut state), Some(&mut queue)), 0);
-        assert_eq!(glass, Glass::white());
-    }
-
-    /// Start looks at lengths and at the directory, never at what the records hold.
-    fn start_from_any_records() {
-        let mut board = board(1024);
-        board.glass = Glass::from_bytes(&[170; 1920]);
-        board.state.text.x = 9999;
-        board.state.full = 200;
-        board.state.serial = Some((1, 2));
-        board.state.refusals = 5;
-        board.state.bars[3] = Some(Bar { side: 9, x1: 9, y1: 9, x2: 1, y2: 1, value: 200 });
-        board.state.inline = Some(Inline { x1: 9, y1: 9, x2: 1, y2: 1, come: 0 });
-        board.state.upload = Some(Upload { kind: Kind::Font, number: 1, size: 9999, stored: 9999, echoed: None });
-        board.queue.place = 200;
-        board.queue.held = 99;
-        board.queue.lost = 7;
-        board.queue.mark = true;
-        board.store[..4].copy_from_slice(&[2, 1, 9, 0]);
-        board.store[300] = 77;
-        let store = board.store.clone();
-        assert_eq!(board.start(), 0);
-        assert_eq!(board.glass, Glass::white());
-        assert_eq!(board.state, State::at_start());
-        assert_eq!((board.queue.held, board.queue.place, board.queue.lost, board.queue.mark), (0, 0, 0, false));
-        assert_eq!(board.store, store, "the store stays");
-    }
-
-    fn values_at_the_start() {
-        let s = State::at_start();
-        let t = &s.text;
-        assert_eq!((t.font, t.left, t.top, t.char_space, t.line_space, t.scroll_row), (1, 0, 0, 0, 1, 64));
-        assert_eq!((t.wrap, t.scroll, t.x, t.y), (true, true, 0, 0));
-        assert_eq!((s.black, s.line_x, s.line_y, s.contrast), (true, 0, 0, 128));
-        assert_eq!((s.backlight, s.minutes, s.flow, s.full, s.empty), (true, 0, false, 0, 0));
-        assert_eq!((s.refusals, s.last_refusal, s.serial), (0, 0, None));
-        assert!(s.bars.iter().all(Option::is_none) && s.strips.iter().all(Option::is_none));
     }
 
     fn settings_are_kept() {

@@ -3,10 +3,10 @@
 use crate::board::Board;
 use crate::builtin::built_in_font;
 use crate::case_file::upload;
-use crate::glass::{HEIGHT, WIDTH};
+use crate::glass::{LOW, WIDTH};
 
 fn after(stream: &[u8]) -> Board {
-    let mut board = Board::fresh(&built_in_font(), vec![0; 1024]);
+    let mut board = Board::fresh(&built_in_font(), LOW, vec![0; 1024]);
     assert_eq!(board.feed(stream, 2 * stream.len()).answer, 0);
     board
 }
@@ -14,7 +14,7 @@ fn after(stream: &[u8]) -> Board {
 /// Every black dot, row by row.
 fn dots(board: &Board) -> Vec<(usize, usize)> {
     let mut all = Vec::new();
-    for y in 0..HEIGHT {
+    for y in 0..board.glass.rows() {
         for x in 0..WIDTH {
             if board.glass.get(x, y) {
                 all.push((x, y));
@@ -79,7 +79,7 @@ checks! {
     }
 
     fn room_of_the_least_store() {
-        let mut board = Board::fresh(&built_in_font(), vec![0; 1024]);
+        let mut board = Board::fresh(&built_in_font(), LOW, vec![0; 1024]);
         assert_eq!(board.feed(&[254, 94, 1, 1, 3], 9).replies, [8]);
         assert_eq!(board.state.last_refusal, 24);
         assert_eq!(board.feed(&[254, 94, 1, 0, 3], 9).replies, [1]);

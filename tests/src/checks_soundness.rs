@@ -3,11 +3,16 @@
 use crate::board::Board;
 use crate::builtin::built_in_font;
 use crate::files::Files;
+use crate::glass::{LOW, TALL};
 use crate::queue::Queue;
 use crate::state::{Bar, Gathering, Inline, Kind, State, Strip, Upload};
 
 fn with(change: impl FnOnce(&mut State)) -> bool {
-    let mut state = State::at_start();
+    with_height(LOW, change)
+}
+
+fn with_height(height: u8, change: impl FnOnce(&mut State)) -> bool {
+    let mut state = State::at_start(height);
     change(&mut state);
     state.sound()
 }
@@ -43,7 +48,7 @@ checks! {
 
     /// A value above the length is kept as the length, so the record stays sound.
     fn held_value_in_the_record() {
-        let mut board = Board::fresh(&built_in_font(), vec![0; 1024]);
+        let mut board = Board::fresh(&built_in_font(), LOW, vec![0; 1024]);
         board.feed(&[254, 103, 0, 1, 0, 0, 9, 1, 254, 105, 0, 255], 99);
         assert_eq!(board.state.bars[0], Some(Bar { side: 1, x1: 0, y1: 0, x2: 9, y2: 1, value: 10 }));
         assert_eq!(board.feed(&[254, 105, 0, 10], 99).answer, 0);
@@ -56,6 +61,28 @@ checks! {
         assert!(!with(|s| s.strips[7] = Some(Strip { y2: 64, ..strip })));
         assert!(!with(|s| s.strips[7] = Some(Strip { x1: 239, ..strip })));
         assert!(!with(|s| s.strips[7] = Some(Strip { y1: 63, ..strip })));
+    }
+
+    fn heights() {
+        for height in 0..=255 {
+            assert_eq!(with_height(height, |_| {}), height == 64 || height == 128, "{height}");
+        }
+    }
+
+    fn bars_and_strips_of_the_tall_glass() {
+        let bar = Bar { side: 0, x1: 0, y1: 0, x2: 239, y2: 127, value: 128 };
+        assert!(with_height(TALL, |s| s.bars[15] = Some(bar)));
+        assert!(!with_height(LOW, |s| s.bars[15] = Some(bar)));
+        assert!(!with_height(TALL, |s| s.bars[15] = Some(Bar { value: 129, ..bar })));
+        assert!(!with_height(TALL, |s| s.bars[0] = Some(Bar { y2: 128, ..bar })));
+        assert!(!with_height(TALL, |s| s.bars[0] = Some(Bar { y1: 127, value: 0, ..bar })));
+        assert!(with_height(TALL, |s| s.bars[0] = Some(Bar { y1: 64, y2: 65, value: 2, ..bar })));
+        let strip = Strip { x1: 0, y1: 126, x2: 239, y2: 127 };
+        assert!(with_height(TALL, |s| s.strips[7] = Some(strip)));
+        assert!(!with_height(LOW, |s| s.strips[7] = Some(strip)));
+        assert!(!with_height(TALL, |s| s.strips[7] = Some(Strip { y2: 128, ..strip })));
+        assert!(!with_height(TALL, |s| s.strips[7] = Some(Strip { y1: 127, ..strip })));
+        assert!(with_height(TALL, |s| (s.text.x, s.text.y) = (495, 255)));
     }
 
     fn gathering() {

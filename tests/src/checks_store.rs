@@ -3,6 +3,7 @@
 use crate::board::Board;
 use crate::builtin::built_in_font;
 use crate::case_file::upload;
+use crate::glass::LOW;
 
 /// 1,024 bytes whose file area holds 200, 201 and so on as leftovers.
 fn board() -> Board {
@@ -10,7 +11,7 @@ fn board() -> Board {
     for (k, byte) in store[256..].iter_mut().enumerate() {
         *byte = 200u8.wrapping_add(k as u8);
     }
-    Board::fresh(&built_in_font(), store)
+    Board::fresh(&built_in_font(), LOW, store)
 }
 
 fn sent(board: &mut Board, bytes: &[u8]) -> Vec<u8> {

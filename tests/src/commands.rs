@@ -39,7 +39,7 @@ impl Machine<'_> {
             82 => self.set(|s| s.text.scroll = false),
             71 => self.text_place(a[0], a[1]),
             72 => self.home(),
-            121 if is(M::TextPointOffGlassRefused) && !on_glass(a[0], a[1]) => Err(17),
+            121 if is(M::TextPointOffGlassRefused) && !on_glass(self.state.height, a[0], a[1]) => Err(17),
             121 => self.set(|s| (s.text.x, s.text.y) = (a[0] as u16, a[1] as u16)),
             80 => self.set(|s| s.contrast = a[0]),
             88 => self.clear(),
@@ -75,7 +75,8 @@ impl Machine<'_> {
     }
 
     fn clear(&mut self) -> Result<Footprint, u8> {
-        self.glass.fill(0, 0, 239, 63, false);
+        let last = if is(M::ClearLeavesRow64) { 63 } else { self.state.height as usize - 1 };
+        self.glass.fill(0, 0, 239, last, false);
         if !is(M::ClearLeavesTextPoint) {
             self.home()?;
         }
@@ -115,7 +116,7 @@ impl Machine<'_> {
     }
 
     fn pixel(&mut self, a: &[u8]) -> Result<Footprint, u8> {
-        if is(M::PixelOffGlassRefused) && !on_glass(a[0], a[1]) {
+        if is(M::PixelOffGlassRefused) && !on_glass(self.state.height, a[0], a[1]) {
             return Err(17);
         }
         if is(M::PixelMovesLineEnd) {
@@ -134,7 +135,7 @@ impl Machine<'_> {
             self.glass.set(x, y, black);
         }
         if is(M::LineEndClipped) {
-            (self.state.line_x, self.state.line_y) = (x2.min(239), y2.min(63));
+            (self.state.line_x, self.state.line_y) = (x2.min(239), y2.min(self.state.height - 1));
         } else {
             (self.state.line_x, self.state.line_y) = (x2, y2);
         }
@@ -158,7 +159,7 @@ impl Machine<'_> {
             return Err(18);
         }
         if is(M::FrameSidesMovedOntoGlass) {
-            (x2, y2) = (x2.min(239), y2.min(63));
+            (x2, y2) = (x2.min(239), y2.min(self.state.height as usize - 1));
         }
         let mut dots = Vec::new();
         for y in y1..=y2 {
@@ -176,7 +177,7 @@ impl Machine<'_> {
         if a[1] > a[3] || a[2] > a[4] {
             return Err(18);
         }
-        if is(M::SolidOffGlassRefused) && !on_glass(a[3], a[4]) {
+        if is(M::SolidOffGlassRefused) && !on_glass(self.state.height, a[3], a[4]) {
             return Err(17);
         }
         if is(M::SolidNeedsTwoByTwo) && (a[1] == a[3] || a[2] == a[4]) {
@@ -191,7 +192,7 @@ impl Machine<'_> {
         if a[0] > a[2] || a[1] > a[3] {
             return Err(18);
         }
-        if is(M::InlineOffGlassRefused) && !on_glass(a[2], a[3]) {
+        if is(M::InlineOffGlassRefused) && !on_glass(self.state.height, a[2], a[3]) {
             return Err(17);
         }
         self.state.inline = Some(Inline { x1: a[0], y1: a[1], x2: a[2], y2: a[3], come: 0 });
@@ -227,7 +228,10 @@ impl Machine<'_> {
             return self.home();
         }
         let (x, y) = (self.state.text.x, self.state.text.y);
-        self.state.text = Text::at_start();
+        self.state.text = Text::at_start(self.state.height);
+        if is(M::PurgeScrollRowStays64) {
+            self.state.text.scroll_row = 64;
+        }
         if is(M::PurgeKeepsTextPoint) {
             (self.state.text.x, self.state.text.y) = (x, y);
         }

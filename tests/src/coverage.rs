@@ -1,9 +1,11 @@
-//! How often each command, refusal, answer and signal was reached.
+//! How often each command, refusal, answer and signal was reached; what a byte did is counted for each height by itself.
 
+use crate::calls_refused;
 use crate::commands::COMMANDS;
 use crate::coverage_faults::{reason, REASONS};
+use crate::coverage_heights::{height_reasons, HEIGHT_REASONS};
 use crate::files::Files;
-use crate::glass::on_glass;
+use crate::glass::{on_glass, HEIGHTS};
 use crate::machine::{Step, Subject};
 use crate::state::{Kind, State};
 use std::collections::BTreeMap;
@@ -35,16 +37,17 @@ pub struct Coverage {
 }
 
 impl Coverage {
-    fn add(&mut self, what: String) {
+    /// Counts one thing more.
+    pub fn note(&mut self, what: String) {
         *self.counts.entry(what).or_default() += 1;
     }
 
     pub fn answer(&mut self, call: &str, answer: u8) {
-        self.add(format!("answer {answer} of {call}"));
+        self.note(format!("answer {answer} of {call}"));
     }
 
     pub fn signal(&mut self, call: &str, signal: u8) {
-        self.add(format!("signal {signal} of {call}"));
+        self.note(format!("signal {signal} of {call}"));
     }
 
     pub fn step(&mut self, step: &Step, files: &Files, state: &State) {
@@ -59,31 +62,33 @@ impl Coverage {
             Subject::UploadFinished => "upload finished".into(),
             Subject::UploadBroken => "upload".into(),
         };
+        let rows = state.height;
         match step.outcome {
-            Ok(_) => self.add(format!("{name} done")),
+            Ok(_) => self.note(format!("{rows} rows: {name} done")),
             Err(refusal) => {
-                self.add(format!("{name} refused {refusal}"));
-                self.add(format!("refusal {refusal}"));
+                self.note(format!("{rows} rows: {name} refused {refusal}"));
+                self.note(format!("{rows} rows: refusal {refusal}"));
                 self.pairs(step, files, state);
                 if let Some(reason) = reason(step, files, state, self.confirmed) {
-                    self.add(format!("reason {reason}"));
+                    self.note(format!("{rows} rows: reason {reason}"));
                 }
             }
         }
+        height_reasons(step, files, state).into_iter().for_each(|reason| self.note(format!("reason {reason}")));
         self.confirmed = match step.subject {
             Subject::UploadConfirmed => self.confirmed + 1,
             Subject::UploadByte => self.confirmed,
             _ => 0,
         };
         if step.scrolled {
-            self.add("character scrolled".into());
+            self.note(format!("{rows} rows: character scrolled"));
         }
     }
 
     fn pairs(&mut self, step: &Step, files: &Files, state: &State) {
         let a = &step.arguments;
         let (subject, applying) = match step.subject {
-            Subject::Command(code @ (103 | 105 | 106 | 107 | 36 | 94)) => (code, numbers_applying(code, a, files)),
+            Subject::Command(code @ (103 | 105 | 106 | 107 | 36 | 94)) => (code, numbers_applying(code, a, files, state.height)),
             Subject::Command(71) => {
                 let refusal = step.outcome.clone().unwrap_err();
                 (71, if a[0] == 0 || a[1] == 0 { vec![refusal, 17] } else { vec![refusal] })
@@ -97,43 +102,48 @@ impl Coverage {
         };
         for (code, first, second) in PAIRS {
             if code == subject && applying.contains(&first) && applying.contains(&second) {
-                self.add(pair_name(code, first, second));
+                self.note(format!("{} rows: {}", state.height, pair_name(code, first, second)));
             }
         }
     }
 
     /// What should be counted and was not.
     pub fn missing(&self) -> Vec<String> {
-        let mut wanted = Vec::new();
+        let mut by_height = Vec::new();
         for (code, _) in COMMANDS {
-            wanted.push(format!("command {code:3} done"));
+            by_height.push(format!("command {code:3} done"));
         }
         for refusal in 16..=29 {
-            wanted.push(format!("refusal {refusal}"));
+            by_height.push(format!("refusal {refusal}"));
         }
         for (code, refusals) in REFUSALS {
             for refusal in refusals {
-                wanted.push(match code {
+                by_height.push(match code {
                     0 => format!("character refused {refusal}"),
                     1 => format!("upload refused {refusal}"),
                     _ => format!("command {code:3} refused {refusal}"),
                 });
             }
         }
+        for what in ["character done", "character scrolled", "byte in line done", "unknown code refused 16"] {
+            by_height.push(what.into());
+        }
+        for what in ["upload byte echoed done", "upload byte confirmed done", "upload finished done"] {
+            by_height.push(what.into());
+        }
+        by_height.extend(PAIRS.map(|(code, first, second)| pair_name(code, first, second)));
+        by_height.extend(REASONS.map(|reason| format!("reason {reason}")));
+        let mut wanted = calls_refused::wanted();
+        for rows in HEIGHTS {
+            wanted.extend(by_height.iter().map(|what| format!("{rows} rows: {what}")));
+        }
+        wanted.extend(HEIGHT_REASONS.map(|reason| format!("reason {reason}")));
         for (call, answers) in ANSWERS {
             wanted.extend(answers.iter().map(|answer| format!("answer {answer} of {call}")));
         }
         for what in ["signal 0 of arrive", "signal 254 of arrive", "signal 0 of take", "signal 255 of take"] {
             wanted.push(what.into());
         }
-        for what in ["character done", "character scrolled", "byte in line done", "unknown code refused 16"] {
-            wanted.push(what.into());
-        }
-        for what in ["upload byte echoed done", "upload byte confirmed done", "upload finished done"] {
-            wanted.push(what.into());
-        }
-        wanted.extend(PAIRS.map(|(code, first, second)| pair_name(code, first, second)));
-        wanted.extend(REASONS.map(|reason| format!("reason {reason}")));
         wanted.retain(|what| !self.counts.contains_key(what));
         wanted
     }
@@ -151,7 +161,7 @@ fn pair_name(code: u8, first: u8, second: u8) -> String {
 }
 
 /// Every refusal that applies by itself, whatever comes first.
-fn numbers_applying(code: u8, a: &[u8], files: &Files) -> Vec<u8> {
+fn numbers_applying(code: u8, a: &[u8], files: &Files, height: u8) -> Vec<u8> {
     let mut all = Vec::new();
     match code {
         103 | 106 => {
@@ -162,7 +172,7 @@ fn numbers_applying(code: u8, a: &[u8], files: &Files) -> Vec<u8> {
             if code == 103 && a[1] > 3 {
                 all.push(20);
             }
-            if !on_glass(c[0], c[1]) || !on_glass(c[2], c[3]) {
+            if !on_glass(height, c[0], c[1]) || !on_glass(height, c[2], c[3]) {
                 all.push(17);
             }
             if c[0] >= c[2] || c[1] >= c[3] {

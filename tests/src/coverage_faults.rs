@@ -7,7 +7,7 @@ use crate::state::{Kind, State};
 
 /// Every reason that the generated streams must reach.
 pub const REASONS: [&str; 25] = [
-    "font too short", "font nominal 0", "font nominal over 240", "font height 0", "font height over 64",
+    "font too short", "font nominal 0", "font nominal over 240", "font height 0", "font higher than the glass",
     "font first after last", "font table cut short", "font width 0", "font width over 240", "font glyph beyond",
     "bitmap too short", "bitmap width 0", "bitmap height 0", "bitmap longer", "bitmap shorter",
     "upload size 0", "upload 63 files", "upload no room", "upload font 1", "upload number held",
@@ -20,8 +20,10 @@ pub fn reason(step: &Step, files: &Files, state: &State, confirmed: usize) -> Op
     let refusal = step.outcome.clone().err()?;
     let a = &step.arguments;
     match (step.subject, refusal) {
-        (Subject::Command(49), 23) => font_fault(&files.find(Kind::Font, a[0])?.bytes),
-        (Subject::Character(_) | Subject::Command(71), 23) => font_fault(&files.find(Kind::Font, state.text.font)?.bytes),
+        (Subject::Command(49), 23) => font_fault(&files.find(Kind::Font, a[0])?.bytes, state.height),
+        (Subject::Character(_) | Subject::Command(71), 23) => {
+            font_fault(&files.find(Kind::Font, state.text.font)?.bytes, state.height)
+        }
         (Subject::Command(98), 23) => bitmap_fault(&files.find(Kind::Bitmap, a[0])?.bytes),
         (Subject::Command(36), 25) if a[0] == 1 => Some("upload font 1"),
         (Subject::Command(36 | 94), 25) => Some("upload number held"),
@@ -34,7 +36,7 @@ pub fn reason(step: &Step, files: &Files, state: &State, confirmed: usize) -> Op
     }
 }
 
-fn font_fault(f: &[u8]) -> Option<&'static str> {
+fn font_fault(f: &[u8], rows: u8) -> Option<&'static str> {
     if f.len() < 4 {
         return Some("font too short");
     }
@@ -42,7 +44,7 @@ fn font_fault(f: &[u8]) -> Option<&'static str> {
         (0, _) => return Some("font nominal 0"),
         (241.., _) => return Some("font nominal over 240"),
         (_, 0) => return Some("font height 0"),
-        (_, 65..) => return Some("font height over 64"),
+        (_, height) if height > rows => return Some("font higher than the glass"),
         _ if f[2] > f[3] => return Some("font first after last"),
         _ => {}
     }
@@ -76,7 +78,7 @@ fn bitmap_fault(f: &[u8]) -> Option<&'static str> {
 /// The refused character left the text point where it was.
 fn no_room(character: u8, files: &Files, state: &State) -> &'static str {
     let text = &state.text;
-    let file = files.find(Kind::Font, text.font).and_then(|file| Font::open(&file.bytes));
+    let file = files.find(Kind::Font, text.font).and_then(|file| Font::open(&file.bytes, state.height));
     let width = file.map_or(5, |font| font.width(character));
     if text.x as usize + width <= 240 {
         "no room below"

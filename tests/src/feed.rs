@@ -1,11 +1,11 @@
 //! The calls start and feed, with their answers in order.
 
 use crate::files::{Files, STORE_LEAST, STORE_MOST};
-use crate::glass::Glass;
+use crate::glass::{Glass, HEIGHTS, LOW, WIDTH};
 use crate::machine::{Machine, Step};
 use crate::mutants::{is, Mutant as M};
 use crate::queue::Queue;
-use crate::state::State;
+use crate::state::{Lent, State};
 
 #[derive(Clone, Debug, PartialEq, Eq)]
 pub struct Fed {
@@ -24,17 +24,52 @@ fn store_fits(store: &[u8]) -> bool {
     (STORE_LEAST..=STORE_MOST).contains(&store.len())
 }
 
-/// `None` stands for a record of the wrong length. The store stays as it is.
-pub fn start(glass: &mut Glass, store: &[u8], state: Option<&mut State>, queue: Option<&mut Queue>) -> u8 {
-    if !glass.right_size() {
+/// For the wrong versions that look at the glass before they know its height.
+fn no_glass_at_all(glass: &Glass) -> bool {
+    HEIGHTS.iter().all(|&height| !glass.suits(height))
+}
+
+/// `None` stands for a record of the wrong length; what a record holds is not looked at. The store stays as it is.
+pub fn start(height: u32, glass: &mut Glass, store: &[u8], state: Option<&mut State>, queue: Option<&mut Queue>) -> u8 {
+    let given = if is(M::StartHeightCutToAByte) { height % 256 } else { height };
+    let mut known = HEIGHTS.into_iter().find(|&known| known as u32 == given);
+    if is(M::StartHeightOtherThan128Is64) {
+        known = known.or(Some(LOW));
+    }
+    if is(M::StartHeightTiedToGlassOnly) && height < 256 {
+        known = Some(height as u8);
+    }
+    if is(M::StartGlassBeforeHeight) && known.is_none() && no_glass_at_all(glass) {
+        return 1;
+    }
+    if is(M::StartStoreBeforeHeight) && known.is_none() && !store_fits(store) {
+        return 2;
+    }
+    let unsuited = known.is_some_and(|height| !glass.suits(height));
+    if is(M::StartGlassBeforeStateLength) && state.is_none() && unsuited {
+        return 1;
+    }
+    if is(M::StartGlassBeforeQueueLength) && queue.is_none() && unsuited {
+        return 1;
+    }
+    if is(M::StartStoreBeforeLengths) && (state.is_none() || queue.is_none()) && !store_fits(store) {
+        return 2;
+    }
+    let (Some(height), Some(state), Some(queue)) = (known, state, queue) else {
+        return 3;
+    };
+    if is(M::StartWantsKnownHeightInRecord) && !state.height_known() {
+        return 3;
+    }
+    if is(M::StartStoreBeforeGlass) && !store_fits(store) {
+        return 2;
+    }
+    if !glass.suits(height) && !(is(M::StartTakesEitherGlass) && !no_glass_at_all(glass)) {
         return 1;
     }
     if !store_fits(store) {
         return 2;
     }
-    let (Some(state), Some(queue)) = (state, queue) else {
-        return 3;
-    };
     if is(M::StartWantsSoundRecords) && !(state.sound() && queue.sound()) {
         return 3;
     }
@@ -44,17 +79,26 @@ pub fn start(glass: &mut Glass, store: &[u8], state: Option<&mut State>, queue: 
     crate::mutants::forget_end();
     if is(M::StartLeavesGlass) {
         // the old picture stays
+    } else if is(M::StartLeavesRow64) {
+        glass.fill(0, 0, WIDTH - 1, 63, false);
     } else {
-        *glass = Glass::white();
+        *glass = Glass::white(height);
     }
-    *state = State::at_start();
+    let old_height = state.height;
+    *state = State::at_start(height);
+    if is(M::StartScrollRowStays64) {
+        state.text.scroll_row = 64;
+    }
+    if is(M::StartKeepsRecordHeight) {
+        state.height = old_height;
+    }
     // the ring's bytes are content that only an arrival writes
     *queue = Queue { ring: std::mem::take(&mut queue.ring), ..Queue::at_start() };
     0
 }
 
 /// Feeds a piece; `room` is the number of reply bytes free at the call.
-pub fn feed(font: &[u8], glass: &mut Glass, store: &mut Vec<u8>, state: Option<&mut State>, piece: &[u8], room: usize) -> Fed {
+pub fn feed(font: &[u8], glass: &mut Glass, store: &mut Vec<u8>, state: Lent, piece: &[u8], room: usize) -> Fed {
     feed_watched(font, glass, store, state, piece, room, &mut |_, _, _, _| {})
 }
 
@@ -63,7 +107,7 @@ pub fn feed_watched(
     font: &[u8],
     glass: &mut Glass,
     store: &mut Vec<u8>,
-    state: Option<&mut State>,
+    state: Lent,
     piece: &[u8],
     room: usize,
     watch: &mut dyn FnMut(&Step, &Glass, &Files, &State),
@@ -71,10 +115,16 @@ pub fn feed_watched(
     if is(M::EmptyPieceUnchecked) && piece.is_empty() {
         return Fed::refused(0);
     }
+    if let Some(answer) = wrong_order(glass, store, &state) {
+        return Fed::refused(answer);
+    }
+    let Some(height) = state.known_height().or(unchecked_height(glass, &state)) else {
+        return Fed::refused(3);
+    };
     if is(M::StoreBeforeGlass) && !store_fits(store) {
         return Fed::refused(2);
     }
-    if !glass.right_size() {
+    if !glass.suits(height) && !(is(M::FeedTakesEitherGlass) && !no_glass_at_all(glass)) {
         return Fed::refused(1);
     }
     if !store_fits(store) {
@@ -83,10 +133,10 @@ pub fn feed_watched(
     if is(M::DirectoryBeforeRecord) && Files::read(store).is_none() {
         return Fed::refused(4);
     }
-    let Some(state) = state else {
+    let Lent::State(state) = state else {
         return Fed::refused(3);
     };
-    if !state.sound() || (!state.thresholds_fit() && !is(M::ThresholdsUncheckedInRecord)) {
+    if !state.sound_but_for_height() || (!state.thresholds_fit() && !is(M::ThresholdsUncheckedInRecord)) {
         return Fed::refused(3);
     }
     let Some(mut files) = Files::read(store) else {
@@ -126,4 +176,39 @@ pub fn feed_watched(
     }
     store.copy_from_slice(&files.raw);
     Fed { answer, consumed, replies }
+}
+
+/// The answer of a wrong version that looks at something else before the record's length and height.
+fn wrong_order(glass: &Glass, store: &[u8], state: &Lent) -> Option<u8> {
+    let wrong_length = matches!(state, Lent::WrongLength);
+    let unknown_height = !wrong_length && state.known_height().is_none();
+    if is(M::FeedGlassBeforeLength) && wrong_length && no_glass_at_all(glass) {
+        return Some(1);
+    }
+    if is(M::FeedGlassBeforeHeight) && unknown_height && no_glass_at_all(glass) {
+        return Some(1);
+    }
+    if is(M::FeedStoreBeforeLength) && wrong_length && !store_fits(store) {
+        return Some(2);
+    }
+    if is(M::FeedStoreBeforeHeight) && unknown_height && !store_fits(store) {
+        return Some(2);
+    }
+    let unsound = match state {
+        Lent::State(state) => !state.sound() || !state.thresholds_fit(),
+        _ => true,
+    };
+    (is(M::FeedAllOfTheRecordFirst) && unsound).then_some(3)
+}
+
+/// For the wrong versions that obey a record of any height, or of any that suits the glass.
+fn unchecked_height(glass: &Glass, state: &Lent) -> Option<u8> {
+    let Lent::State(state) = state else {
+        return None;
+    };
+    let other_than_128 = is(M::RecordHeightOtherThan128Is64) && glass.suits(LOW);
+    if other_than_128 {
+        return Some(LOW);
+    }
+    (is(M::RecordHeightTiedToGlassOnly) && glass.suits(state.height)).then_some(state.height)
 }

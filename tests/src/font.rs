@@ -13,14 +13,24 @@ pub struct Font<'a> {
 }
 
 impl<'a> Font<'a> {
-    /// `None` when the file is malformed in any of its parts.
-    pub fn open(bytes: &'a [u8]) -> Option<Font<'a>> {
+    /// `None` when the file is malformed in any of its parts, on a glass of `rows`.
+    pub fn open(bytes: &'a [u8], rows: u8) -> Option<Font<'a>> {
         if bytes.len() < 4 {
             return None;
         }
         let (nominal, height) = (bytes[0] as usize, bytes[1] as usize);
         let (first, last) = (bytes[2], bytes[3]);
-        let tallest = if is(M::FontHeightUnlimited) { 255 } else { 64 };
+        let tallest = if is(M::FontHeightUnlimited) {
+            255
+        } else if is(M::FontHeightLimitStays64) {
+            64
+        } else if is(M::FontHeightLimitAlways128) {
+            128
+        } else if is(M::FontMustBeLowerThanGlass) {
+            rows as usize - 1
+        } else {
+            rows as usize
+        };
         if nominal == 0 && !is(M::FontNominalZeroAllowed) || nominal > 240 && !is(M::FontNominalUnlimited) {
             return None;
         }

@@ -1,6 +1,6 @@
 //! What a byte may have touched on the glass.
 
-use crate::glass::{HEIGHT, WIDTH};
+use crate::glass::WIDTH;
 
 #[derive(Clone, Debug, PartialEq, Eq)]
 pub enum Footprint {
@@ -17,15 +17,15 @@ impl Footprint {
         Footprint::Rectangle { x1: x1 as usize, y1: y1 as usize, x2: x2 as usize, y2: y2 as usize }
     }
 
-    /// Every dot of the glass that it covers, as a grid of the glass's size.
-    pub fn cover(&self) -> Vec<bool> {
-        let mut grid = vec![false; WIDTH * HEIGHT];
+    /// Every dot of a glass with so many rows that it covers, as a grid of the glass's size.
+    pub fn cover(&self, rows: usize) -> Vec<bool> {
+        let mut grid = vec![false; WIDTH * rows];
         match self {
             Footprint::Nothing => {}
             Footprint::Whole => grid.fill(true),
             Footprint::Dots(dots) => {
                 for &(x, y) in dots {
-                    if x < WIDTH && y < HEIGHT {
+                    if x < WIDTH && y < rows {
                         grid[y * WIDTH + x] = true;
                     }
                 }
@@ -33,7 +33,7 @@ impl Footprint {
             Footprint::Rectangle { x1, y1, x2, y2 } => {
                 for y in *y1..=*y2 {
                     for x in *x1..=*x2 {
-                        if x < WIDTH && y < HEIGHT {
+                        if x < WIDTH && y < rows {
                             grid[y * WIDTH + x] = true;
                         }
                     }

@@ -5,6 +5,7 @@
 
 use crate::board::Board;
 use crate::generator_start::{random_glass, random_queue, random_state, random_store};
+use crate::glass::HEIGHTS;
 use crate::prng::Prng;
 
 pub const EDGES: [u8; 33] = [
@@ -21,19 +22,25 @@ pub struct Scene {
 }
 
 /// A stream from a fresh start on the program's store of 32,768 zero bytes.
-pub fn program_stream(font: &[u8], seed: u64) -> Vec<u8> {
-    stream(&Board::fresh(font, vec![0; 32768]), &mut Prng::new(seed))
+pub fn program_stream(font: &[u8], height: u8, seed: u64) -> Vec<u8> {
+    stream(&Board::fresh(font, height, vec![0; 32768]), &mut Prng::new(seed))
 }
 
-/// A stream from a fresh start on a store of 1,024 zero bytes.
-pub fn small_stream(font: &[u8], seed: u64) -> Vec<u8> {
-    stream(&Board::fresh(font, vec![0; 1024]), &mut Prng::new(seed))
+/// A stream from a fresh start of the low glass on a store of 1,024 zero bytes.
+pub fn small_stream(font: &[u8], height: u8, seed: u64) -> Vec<u8> {
+    stream(&Board::fresh(font, height, vec![0; 1024]), &mut Prng::new(seed))
+}
+
+/// Two seeds for one glass, then two for the other: even and odd ones meet both.
+pub fn height_of(seed: u64) -> u8 {
+    HEIGHTS[(seed / 2 % 2) as usize]
 }
 
 /// A stream from a fresh start, on a store of any size with files and leftovers.
 pub fn fresh_scene(font: &[u8], seed: u64) -> Scene {
     let mut rng = Prng::new(seed);
-    let begin = Board::fresh(font, random_store(&mut rng));
+    let height = height_of(seed);
+    let begin = Board::fresh(font, height, random_store(&mut rng, height));
     let stream = stream(&begin, &mut rng);
     Scene { seed, begin, stream }
 }
@@ -41,9 +48,10 @@ pub fn fresh_scene(font: &[u8], seed: u64) -> Scene {
 /// A stream from any sound state.
 pub fn any_scene(font: &[u8], seed: u64) -> Scene {
     let mut rng = Prng::new(seed ^ 0xA5A5_0000);
-    let mut begin = Board::fresh(font, random_store(&mut rng));
-    begin.glass = random_glass(&mut rng);
-    begin.state = random_state(&mut rng, &begin.store);
+    let height = height_of(seed);
+    let mut begin = Board::fresh(font, height, random_store(&mut rng, height));
+    begin.glass = random_glass(&mut rng, height);
+    begin.state = random_state(&mut rng, height, &begin.store);
     begin.queue = random_queue(&mut rng);
     let stream = stream(&begin, &mut rng);
     Scene { seed, begin, stream }
@@ -106,12 +114,26 @@ impl Maker {
         }
     }
 
+    /// A row near the lower edge, near row 64, or anywhere above.
     pub fn row(&mut self) -> u8 {
-        match self.rng.below(4) {
-            0 => self.edge(),
-            1 => self.rng.between(50, 70) as u8,
+        let height = self.height();
+        match self.rng.below(8) {
+            0 | 1 => self.edge(),
+            2 | 3 => self.rng.between(height - 14, height + 6) as u8,
+            4 => self.rng.between(56, 70) as u8,
+            5 => self.rng.below(height) as u8,
             _ => self.rng.below(30) as u8,
         }
+    }
+
+    pub fn height(&self) -> usize {
+        self.board.state.height as usize
+    }
+
+    /// This many rows above the lower edge of the glass, and now and then above row 64.
+    pub fn above_the_edge(&mut self, rows: usize) -> u8 {
+        let edge = if self.rng.percent(75) { self.height() } else { 64 };
+        (edge - rows) as u8
     }
 
     /// Two numbers, the first at most the second.
@@ -209,21 +231,23 @@ impl Maker {
             return vec![254, 107, n | direction];
         }
         let x1 = self.rng.below(238) as u8;
-        let y1 = self.rng.below(62) as u8;
+        let y1 = self.rng.below(self.height() - 2) as u8;
         let x2 = self.rng.between(x1 as usize + 1, 239.min(x1 as usize + 40)) as u8;
-        let y2 = self.rng.between(y1 as usize + 1, 63) as u8;
+        let y2 = self.rng.between(y1 as usize + 1, self.height() - 1) as u8;
         vec![254, 106, n, x1, y1, x2, y2, 254, 107, n | direction]
     }
 
     fn metrics(&mut self) -> Vec<u8> {
         if self.rng.percent(40) {
-            return vec![254, 50, 0, 0, self.rng.below(2) as u8, 1, 64, 254, 67, 254, 81, 254, 72];
+            let scroll_row = self.above_the_edge(0);
+            return vec![254, 50, 0, 0, self.rng.below(2) as u8, 1, scroll_row, 254, 67, 254, 81, 254, 72];
         }
         let left = self.rng.pick(&[0, 0, 0, 3, 20, 200, 230, 236, 239, 240, 255]);
-        let top = self.rng.pick(&[0, 0, 0, 2, 30, 57, 60, 63, 64, 255]);
+        let height = self.height() as u8;
+        let top = self.rng.pick(&[0, 0, 0, 2, 30, height - 7, height - 4, height - 1, height, 255]);
         let space = self.rng.pick(&[0, 0, 1, 2, 9, 255]);
         let line = self.rng.pick(&[0, 1, 1, 3, 20, 64, 255]);
-        let scroll_row = self.rng.pick(&[64, 64, 64, 0, 16, 32, 63, 65, 71, 200, 255]);
+        let scroll_row = self.rng.pick(&[height, height, height, 64, 0, 16, 32, height - 1, height + 1, height + 7, 200, 255]);
         let mut bytes = vec![254, 50, left, top, space, line, scroll_row];
         if self.rng.percent(40) {
             bytes.extend([254, self.rng.pick(&[72, 88, 72])]);
@@ -234,7 +258,7 @@ impl Maker {
     fn in_line(&mut self) -> Vec<u8> {
         let (x1, y1) = (self.column(), self.row());
         let x2 = x1.saturating_add(self.rng.pick(&[0, 1, 6, 7, 8, 9, 15, 16, 23, 30]));
-        let y2 = y1.saturating_add(self.rng.pick(&[0, 0, 1, 2, 5, 9]));
+        let y2 = y1.saturating_add(self.rng.pick(&[0, 0, 1, 2, 5, 9, 20]));
         let total = (x2 as usize - x1 as usize + 8) / 8 * (y2 as usize - y1 as usize + 1);
         let mut bytes = vec![254, 100, x1, y1, x2, y2];
         bytes.extend((0..total).map(|_| self.rng.pick(&[0, 1, 85, 128, 170, 254, 255])));

@@ -2,15 +2,17 @@
 
 use crate::prng::Prng;
 
-/// A small well-formed font.
-pub fn good_font(rng: &mut Prng) -> Vec<u8> {
+/// A small well-formed font for a glass of so many rows.
+pub fn good_font(rng: &mut Prng, rows: u8) -> Vec<u8> {
+    let rows = rows as usize;
     let height = match rng.below(12) {
-        0 => 64,
+        0 => rows,
         1 => 1,
         2 => 40,
+        3 => rng.between(rows / 2, rows),
         _ => rng.between(1, 12),
     };
-    let count = rng.between(1, 5);
+    let count = if height > 64 { rng.between(1, 2) } else { rng.between(1, 5) };
     let first = match rng.below(4) {
         0 => 0,
         1 => 256 - count,
@@ -42,9 +44,9 @@ pub fn good_font(rng: &mut Prng) -> Vec<u8> {
     header
 }
 
-/// A font with one thing wrong.
-pub fn bad_font(rng: &mut Prng) -> Vec<u8> {
-    let mut font = good_font(rng);
+/// A font with one thing wrong on a glass of so many rows.
+pub fn bad_font(rng: &mut Prng, rows: u8) -> Vec<u8> {
+    let mut font = good_font(rng, rows);
     let count = (font[3] - font[2]) as usize + 1;
     let entry = 4 + 3 * rng.below(count);
     match rng.below(10) {
@@ -53,8 +55,10 @@ pub fn bad_font(rng: &mut Prng) -> Vec<u8> {
         2 => font[0] = rng.between(241, 255) as u8,
         3 => font[1] = 0,
         4 => {
-            font[1] = rng.between(65, 70) as u8;
-            font.resize(font.len() + 100, 7);
+            // on the low glass most often one that the tall one would take
+            let rows = rows as usize;
+            font[1] = [rows + 1, rng.between(rows + 1, rows + 6), rng.between(rows + 1, 2 * rows - 1)][rng.below(3)] as u8;
+            font.resize(font.len() + 14 * font[1] as usize / 8 + 1, 7);
         }
         5 => (font[2], font[3]) = (font[3].max(1), font[2].min(font[3].max(1) - 1)),
         6 => font.truncate(rng.between(4, 3 + 3 * count)),

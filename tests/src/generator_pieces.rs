@@ -17,10 +17,14 @@ impl Maker {
         let n = self.rng.pick(&[0, 0, 1, 1, 2, 2, 3, 3, 15]);
         let Some(bar) = self.board.state.bars[n as usize].filter(|_| self.rng.percent(88)) else {
             let side = self.rng.below(4) as u8;
-            let (x1, y1) = (self.rng.below(30) as u8, self.rng.below(20) as u8);
+            let top = self.rng.pick(&[0, 0, self.height() - 64, self.height() - 33]);
+            let (x1, y1) = (self.rng.below(30) as u8, (top + self.rng.below(20)) as u8);
             let x2 = x1 + self.rng.between(1, 12) as u8;
             let y2 = y1 + self.rng.between(1, 12) as u8;
-            let corner = if self.rng.percent(20) { [200, 50, 239, 63] } else { [x1, y1, x2, y2] };
+            let mut corner = [x1, y1, x2, y2];
+            if self.rng.percent(20) {
+                corner = [200, self.above_the_edge(14), 239, self.height() as u8 - 1];
+            }
             let mut bytes = vec![254, 103, n, side];
             bytes.extend(corner);
             if self.rng.percent(70) {
@@ -49,11 +53,13 @@ impl Maker {
             bytes.extend(self.place_at_an_edge());
         } else if self.rng.percent(50) {
             let x = self.rng.pick(&[0, 0, 100, 220, 230, 234, 235, 236, 239, 240, 255]);
-            let y = self.rng.pick(&[0, 0, 8, 40, 48, 49, 50, 56, 57, 58, 63, 64, 255]);
+            let near = self.rng.pick(&[24, 16, 15, 14, 8, 7, 6, 1, 0]);
+            let y = [0, 0, 8, 255, self.above_the_edge(near)][self.rng.below(13).min(4)];
             bytes.extend([254, 121, x, y]);
         } else if self.rng.percent(30) {
             let column = self.rng.pick(&[0, 1, 2, 3, 30, 47, 48, 49, 255]);
-            let row = self.rng.pick(&[0, 1, 2, 3, 7, 8, 9, 255]);
+            let last = self.height() as u8 / 8;
+            let row = self.rng.pick(&[0, 1, 2, 3, 8, last - 1, last, last + 1, 255]);
             bytes.extend([254, 71, column, row]);
         }
         if self.rng.percent(25) {
@@ -75,7 +81,7 @@ impl Maker {
     fn place_at_an_edge(&mut self) -> Vec<u8> {
         let files = self.files();
         let text = self.board.state.text.clone();
-        let file = files.find(Kind::Font, text.font).and_then(|file| Font::open(&file.bytes));
+        let file = files.find(Kind::Font, text.font).and_then(|file| Font::open(&file.bytes, self.board.state.height));
         let (nominal, height) = file.map_or((5, 7), |font| (font.nominal, font.height));
         let line = height + text.line_space as usize;
         if self.rng.percent(50) {
@@ -83,7 +89,7 @@ impl Maker {
             return vec![254, 121, self.rng.pick(&[236, 239, 240]), y.min(255) as u8];
         }
         let last_column = 239usize.saturating_sub(text.left as usize) / (nominal + text.char_space as usize);
-        let last_row = 63usize.saturating_sub(text.top as usize) / line;
+        let last_row = (self.height() - 1).saturating_sub(text.top as usize) / line;
         let (more, below) = (self.rng.below(2), self.rng.below(2));
         vec![254, 71, (last_column + 1 + more).min(255) as u8, (last_row + 1 + below).min(255) as u8]
     }
@@ -92,7 +98,7 @@ impl Maker {
         let number = self.board.state.text.font;
         let files = self.files();
         let file = files.find(Kind::Font, number);
-        match file.and_then(|file| Font::open(&file.bytes)) {
+        match file.and_then(|file| Font::open(&file.bytes, self.board.state.height)) {
             Some(font) => (font.first, font.last),
             None => (32, 126),
         }
@@ -110,7 +116,7 @@ impl Maker {
         let (kind, code) = self.kind_code();
         let number = self.rng.pick(&[0, 1, 2, 3, 4, 5, 254, 255]);
         let file = match kind {
-            Kind::Font => good_font(&mut self.rng),
+            Kind::Font => good_font(&mut self.rng, self.board.state.height),
             Kind::Bitmap => good_bitmap(&mut self.rng),
         };
         if self.files().upload_refused(kind, number, file.len()).is_some() {
@@ -128,7 +134,7 @@ impl Maker {
         let (kind, code) = self.kind_code();
         let number = self.rng.pick(&[2, 3, 6, 7]);
         let file = match kind {
-            Kind::Font => bad_font(&mut self.rng),
+            Kind::Font => bad_font(&mut self.rng, self.board.state.height),
             Kind::Bitmap => bad_bitmap(&mut self.rng),
         };
         if self.files().upload_refused(kind, number, file.len()).is_some() {
@@ -182,7 +188,8 @@ impl Maker {
                 if let Some(bitmap) = Bitmap::open(&file.bytes).filter(|_| self.rng.percent(40)) {
                     // across the right and lower edge
                     x = (240 - bitmap.width.min(240) / 2).min(255) as u8;
-                    y = (64 - bitmap.height.min(64) / 2) as u8;
+                    let edge = self.above_the_edge(0) as usize;
+                    y = (edge - bitmap.height.min(edge) / 2) as u8;
                 }
                 vec![254, 98, file.number, x, y]
             }
@@ -231,11 +238,13 @@ impl Maker {
         let number = if self.rng.percent(50) { 16 } else { 2 };
         let side = if self.rng.percent(50) { 4 } else { 1 };
         let strip = if self.rng.percent(50) { 8 } else { 2 };
+        let height = self.board.state.height;
         let corners: [u8; 4] = self.rng.pick(&[
             [240, 0, 239, 9],
+            [0, height, 9, height - 1],
             [0, 64, 9, 63],
             [0, 0, 240, 9],
-            [0, 0, 9, 64],
+            [0, 0, 9, height],
             [9, 0, 8, 9],
             [9, 0, 9, 9],
             [0, 9, 9, 9],
@@ -255,7 +264,8 @@ impl Maker {
     /// A malformed font can be current when the record says so; a good one cannot turn bad,
     /// so here only place, range and room compete.
     fn text_refusals(&mut self) -> Vec<u8> {
-        let mut bytes = vec![254, 68, 254, 121, self.rng.pick(&[238, 240, 255]), self.rng.pick(&[0, 63, 255])];
+        let last = self.height() as u8 - 1;
+        let mut bytes = vec![254, 68, 254, 121, self.rng.pick(&[238, 240, 255]), self.rng.pick(&[0, last, 255])];
         bytes.extend([31, 127, 255, 65]);
         bytes.extend([254, 71, 0, 1, 254, 71, 1, 0, 254, 71, 255, 255]);
         if self.rng.percent(70) {

@@ -3,13 +3,13 @@
 use crate::commands::COMMANDS;
 use crate::files::Files;
 use crate::generator_files::{bad_bitmap, bad_font, good_bitmap, good_font};
-use crate::glass::{Glass, GLASS_BYTES};
+use crate::glass::{glass_bytes, Glass};
 use crate::prng::Prng;
 use crate::queue::{Queue, RING};
 use crate::state::{Bar, Gathering, Inline, Kind, State, Strip, Upload};
 
-/// A store of an allowed size with leftovers, and files in it more often than not.
-pub fn random_store(rng: &mut Prng) -> Vec<u8> {
+/// A store of an allowed size with leftovers, and files in it more often than not; its good fonts are good on that glass.
+pub fn random_store(rng: &mut Prng, height: u8) -> Vec<u8> {
     let size = match rng.below(10) {
         0 => 32768,
         1 => 1025,
@@ -26,10 +26,10 @@ pub fn random_store(rng: &mut Prng) -> Vec<u8> {
     let (mut record, mut at) = (0, 256);
     for number in 2..rng.between(2, 7) as u8 {
         let (kind, file) = match rng.below(6) {
-            0 => (1, bad_font(rng)),
+            0 => (1, bad_font(rng, height)),
             1 => (2, bad_bitmap(rng)),
             2 | 3 => (2, good_bitmap(rng)),
-            _ => (1, good_font(rng)),
+            _ => (1, good_font(rng, height)),
         };
         if at + file.len() <= size {
             store[record..record + 4].copy_from_slice(&[kind, number, file.len() as u8, (file.len() / 256) as u8]);
@@ -42,9 +42,9 @@ pub fn random_store(rng: &mut Prng) -> Vec<u8> {
     store
 }
 
-pub fn random_glass(rng: &mut Prng) -> Glass {
+pub fn random_glass(rng: &mut Prng, height: u8) -> Glass {
     let fill = rng.pick(&[0, 255, 170]);
-    let bytes: Vec<u8> = (0..GLASS_BYTES).map(|_| if rng.percent(50) { fill } else { rng.byte() }).collect();
+    let bytes: Vec<u8> = (0..glass_bytes(height)).map(|_| if rng.percent(50) { fill } else { rng.byte() }).collect();
     Glass::from_bytes(&bytes)
 }
 
@@ -55,28 +55,29 @@ pub fn random_queue(rng: &mut Prng) -> Queue {
 }
 
 /// Any sound state that such a store does not refuse.
-pub fn random_state(rng: &mut Prng, store: &[u8]) -> State {
-    let mut state = State::at_start();
+pub fn random_state(rng: &mut Prng, height: u8, store: &[u8]) -> State {
+    let mut state = State::at_start(height);
     let text = &mut state.text;
     text.font = rng.pick(&[1, 1, 2, 3, 4, 5, 6, 9]);
     text.left = rng.pick(&[0, 0, 7, 239, 255]);
-    text.top = rng.pick(&[0, 0, 9, 63, 255]);
+    text.top = rng.pick(&[0, 0, 9, height - 1, 255]);
     text.char_space = rng.pick(&[0, 1, 255]);
     text.line_space = rng.pick(&[0, 1, 60, 255]);
-    text.scroll_row = rng.pick(&[64, 0, 30, 255]);
+    text.scroll_row = rng.pick(&[height, 64, 0, 30, 255]);
     (text.wrap, text.scroll) = (rng.percent(70), rng.percent(70));
-    (text.x, text.y) = (rng.pick(&[0, 235, 240, 495]), rng.pick(&[0, 40, 57, 255]));
+    (text.x, text.y) = (rng.pick(&[0, 235, 240, 495]), rng.pick(&[0, 40, 57, height as u16 - 7, 255]));
     state.black = rng.percent(50);
     (state.line_x, state.line_y) = (rng.byte(), rng.byte());
     for bar in state.bars.iter_mut().take(6) {
-        let (x1, y1) = (rng.below(200) as u8, rng.below(50) as u8);
+        let (x1, y1) = (rng.below(200) as u8, rng.below(height as usize - 14) as u8);
         let (x2, y2) = (x1 + rng.between(1, 39) as u8, y1 + rng.between(1, 13) as u8);
         let mut new = Bar { side: rng.below(4) as u8, x1, y1, x2, y2, value: 0 };
         new.value = rng.between(0, new.length()) as u8;
         *bar = rng.percent(50).then_some(new);
     }
     for strip in state.strips.iter_mut() {
-        *strip = rng.percent(40).then_some(Strip { x1: 3, y1: rng.below(30) as u8, x2: rng.between(4, 239) as u8, y2: 63 });
+        let (y1, x2) = (rng.below(30) as u8, rng.between(4, 239) as u8);
+        *strip = rng.percent(40).then_some(Strip { x1: 3, y1, x2, y2: height - 1 });
     }
     state.serial = rng.percent(50).then_some((rng.byte(), rng.byte()));
     (state.contrast, state.backlight, state.minutes) = (rng.byte(), rng.percent(50), rng.byte());
@@ -98,7 +99,7 @@ fn under_way(rng: &mut Prng, state: &mut State, store: &[u8]) {
             state.gathering = Some(Gathering { bytes });
         }
         1 => {
-            let (x1, y1) = (rng.below(250) as u8, rng.below(70) as u8);
+            let (x1, y1) = (rng.below(250) as u8, rng.below(state.height as usize + 6) as u8);
             let mut inline = Inline { x1, y1, x2: x1.saturating_add(20), y2: y1.saturating_add(9), come: 0 };
             inline.come = rng.below(inline.total());
             state.inline = Some(inline);

@@ -3,8 +3,14 @@
 use crate::mutants::{is, Mutant as M};
 
 pub const WIDTH: usize = 240;
-pub const HEIGHT: usize = 64;
-pub const GLASS_BYTES: usize = 1920;
+/// The two glasses there are, by their rows.
+pub const LOW: u8 = 64;
+pub const TALL: u8 = 128;
+pub const HEIGHTS: [u8; 2] = [LOW, TALL];
+
+pub fn glass_bytes(height: u8) -> usize {
+    WIDTH / 8 * height as usize
+}
 
 /// One dot for every bit lent; `true` is black.
 #[derive(Clone, Debug, PartialEq, Eq)]
@@ -13,11 +19,11 @@ pub struct Glass {
 }
 
 impl Glass {
-    pub fn white() -> Glass {
-        Glass { dots: vec![false; WIDTH * HEIGHT] }
+    pub fn white(height: u8) -> Glass {
+        Glass { dots: vec![false; WIDTH * height as usize] }
     }
 
-    /// Any number of bytes may be lent; only 1,920 of them make a glass.
+    /// Any number of bytes may be lent; which of them make a glass is the height's business.
     pub fn from_bytes(bytes: &[u8]) -> Glass {
         let mut dots = Vec::new();
         for &byte in bytes {
@@ -40,8 +46,12 @@ impl Glass {
         bytes
     }
 
-    pub fn right_size(&self) -> bool {
-        self.dots.len() == GLASS_BYTES * 8
+    pub fn suits(&self, height: u8) -> bool {
+        self.dots.len() == glass_bytes(height) * 8
+    }
+
+    pub fn rows(&self) -> usize {
+        self.dots.len() / WIDTH
     }
 
     pub fn get(&self, x: usize, y: usize) -> bool {
@@ -50,7 +60,8 @@ impl Glass {
 
     /// Dots beyond the glass are dropped.
     pub fn set(&mut self, x: usize, y: usize, black: bool) {
-        if x < WIDTH && y < HEIGHT {
+        let rows = if is(M::ClippedAtRow64) { 64 } else { self.rows() };
+        if x < WIDTH && y < rows {
             self.dots[y * WIDTH + x] = black;
         }
     }
@@ -65,10 +76,17 @@ impl Glass {
 
     /// All rows move up; white comes in below.
     pub fn scroll_up(&mut self, rows: usize) {
-        let last = if is(M::ScrollStopsAtRow56) { 56 } else { HEIGHT };
+        let last = if is(M::ScrollStopsAtRow56) {
+            56
+        } else if is(M::ScrollStopsAtRow64) {
+            64
+        } else {
+            self.rows()
+        };
+        let bottom = if is(M::ScrollBringsWhiteAtRow64) { 64 } else { self.rows() };
         for y in 0..last {
             for x in 0..WIDTH {
-                let below = if y + rows < HEIGHT {
+                let below = if y + rows < bottom {
                     self.get(x, y + rows)
                 } else if is(M::ScrollLeavesOldRowsBelow) {
                     self.get(x, y)
@@ -89,6 +107,6 @@ pub fn is_black(byte: u8) -> bool {
     byte == 1
 }
 
-pub fn on_glass(x: u8, y: u8) -> bool {
-    (x as usize) < WIDTH && (y as usize) < HEIGHT
+pub fn on_glass(height: u8, x: u8, y: u8) -> bool {
+    (x as usize) < WIDTH && y < height
 }

@@ -1,14 +1,31 @@
 //! The program's listing of what a stream leaves.
 
 use crate::board::Board;
-use crate::glass::{Glass, HEIGHT, WIDTH};
+use crate::glass::{Glass, LOW, TALL, WIDTH};
 use crate::mutants::{is, Mutant as M};
+use std::ffi::OsStr;
 
 pub const REPLIES_SHOWN: usize = 4096;
 
+/// The rows that the program's first argument asks for: exactly `128`, and anything else or nothing is 64.
+pub fn height_asked(argument: Option<&OsStr>) -> u8 {
+    if is(M::ArgumentReadAsNumber) {
+        let number = argument.and_then(|word| word.to_str()?.trim().parse::<u32>().ok());
+        return if number == Some(128) { TALL } else { LOW };
+    }
+    if is(M::ArgumentOnlyBegins128) {
+        return if argument.is_some_and(|word| word.to_string_lossy().starts_with("128")) { TALL } else { LOW };
+    }
+    if argument.is_some_and(|word| word == "128") {
+        TALL
+    } else {
+        LOW
+    }
+}
+
 /// Runs a stream from a fresh start on 32,768 zero bytes and lists the end.
-pub fn listing_of_stream(font: &[u8], stream: &[u8]) -> String {
-    let mut board = Board::fresh(font, vec![0; 32768]);
+pub fn listing_of_stream(font: &[u8], height: u8, stream: &[u8]) -> String {
+    let mut board = Board::fresh(font, height, vec![0; 32768]);
     let mut replies = Vec::new();
     let mut left = stream;
     while !left.is_empty() {
@@ -23,8 +40,9 @@ pub fn listing_of_stream(font: &[u8], stream: &[u8]) -> String {
 }
 
 pub fn listing(glass: &Glass, refusals: u16, last: u8, replies: &[u8]) -> String {
-    let mut out = String::from("glass 240 64\n");
-    for y in 0..HEIGHT {
+    let rows = if is(M::ListingShows64Rows) { 64 } else { glass.rows() };
+    let mut out = format!("glass 240 {}\n", if is(M::ListingSays64) { 64 } else { glass.rows() });
+    for y in 0..rows {
         let runs = runs(glass, y);
         if !runs.is_empty() || is(M::ListingShowsBlankRows) {
             out += &format!("{y}: {}\n", runs.join(" "));

@@ -16,7 +16,8 @@ impl Machine<'_> {
             return Err(23);
         };
         let (x, y) = (a[1] as usize, a[2] as usize);
-        if is(M::BitmapMustLieOnGlass) && (x + bitmap.width > 240 || y + bitmap.height > 64) {
+        let rows = self.state.height as usize;
+        if is(M::BitmapMustLieOnGlass) && (x + bitmap.width > 240 || y + bitmap.height > rows) {
             return Err(17);
         }
         for row in 0..bitmap.height {
@@ -26,6 +27,9 @@ impl Machine<'_> {
                     continue;
                 }
                 let black = if is(M::BitmapInDrawingColour) { black == self.state.black } else { black };
+                if is(M::BitmapClippedAtRow64) && y + row >= 64 {
+                    continue;
+                }
                 self.glass.set(x + column, y + row, black);
             }
         }
@@ -50,6 +54,9 @@ impl Machine<'_> {
             if is(M::InlineClearBitsTransparent) && !black {
                 continue;
             }
+            if is(M::InlineClippedAtRow64) && y >= 64 {
+                continue;
+            }
             if x <= inline.x2 as usize || is(M::InlineSpareBitsPainted) {
                 self.glass.set(x, y, black);
             }
@@ -57,7 +64,8 @@ impl Machine<'_> {
         inline.come += 1;
         let mut total = inline.total();
         if is(M::InlineBytesOnlyForGlass) {
-            total = inline.bytes_per_row() * (inline.y2.min(63) as usize + 1).saturating_sub(inline.y1 as usize);
+            let last = inline.y2.min(self.state.height - 1) as usize;
+            total = inline.bytes_per_row() * (last + 1).saturating_sub(inline.y1 as usize);
         }
         if is(M::InlinePackedLikeSaved) {
             let dots = (inline.x2 as usize - inline.x1 as usize + 1) * (inline.y2 as usize - inline.y1 as usize + 1);

@@ -9,7 +9,8 @@ use crate::prng::Prng;
 use crate::shrink::shrink;
 use std::panic::{catch_unwind, AssertUnwindSafe};
 
-pub const SEEDS: u64 = 1000;
+/// Half of them for each height.
+pub const SEEDS: u64 = 2000;
 
 pub type Property = fn(&Scene, &[u8], &mut Coverage) -> Result<(), String>;
 

@@ -1,10 +1,8 @@
 //! The state record as plain fields, and when it is sound.
 
 use crate::commands::arguments;
-use crate::glass::on_glass;
+use crate::glass::{on_glass, HEIGHTS};
 use crate::mutants::{is, Mutant as M};
-
-pub const START_SCROLL_ROW: u8 = 64;
 
 #[derive(Clone, Copy, Debug, PartialEq, Eq)]
 pub enum Kind {
@@ -63,14 +61,15 @@ pub struct Text {
 }
 
 impl Text {
-    pub fn at_start() -> Text {
+    /// The start's scroll row is the glass's height.
+    pub fn at_start(height: u8) -> Text {
         Text {
             font: 1,
             left: 0,
             top: 0,
             char_space: 0,
             line_space: 1,
-            scroll_row: START_SCROLL_ROW,
+            scroll_row: height,
             wrap: true,
             scroll: true,
             x: 0,
@@ -99,6 +98,8 @@ pub struct Strip {
 
 #[derive(Clone, Debug, PartialEq, Eq)]
 pub struct State {
+    /// The glass's rows: 64 or 128, chosen at start.
+    pub height: u8,
     pub gathering: Option<Gathering>,
     pub inline: Option<Inline>,
     pub upload: Option<Upload>,
@@ -120,12 +121,13 @@ pub struct State {
 }
 
 impl State {
-    pub fn at_start() -> State {
+    pub fn at_start(height: u8) -> State {
         State {
+            height,
             gathering: None,
             inline: None,
             upload: None,
-            text: Text::at_start(),
+            text: Text::at_start(height),
             black: true,
             line_x: 0,
             line_y: 0,
@@ -144,10 +146,20 @@ impl State {
     }
 
     pub fn sound(&self) -> bool {
+        self.height_known() && self.sound_but_for_height()
+    }
+
+    pub fn height_known(&self) -> bool {
+        HEIGHTS.contains(&self.height)
+    }
+
+    /// Everything but whether there is a glass of this height.
+    pub fn sound_but_for_height(&self) -> bool {
+        let height = if is(M::BarSoundToRow63) { 64 } else if is(M::BarSoundToRow127) { 128 } else { self.height };
         self.text.x <= if is(M::TextPointSoundTo494) { 494 } else { 495 }
             && self.text.y <= 255
-            && self.bars.iter().flatten().all(Bar::sound)
-            && self.strips.iter().flatten().all(Strip::sound)
+            && self.bars.iter().flatten().all(|bar| bar.sound(height))
+            && self.strips.iter().flatten().all(|strip| strip.sound(self.height))
             && self.gathering.as_ref().is_none_or(Gathering::sound)
             && self.inline.as_ref().is_none_or(Inline::sound)
             && self.upload.as_ref().is_none_or(|u| u.stored < u.size)
@@ -182,19 +194,41 @@ impl Inline {
 }
 
 impl Bar {
-    fn sound(&self) -> bool {
+    fn sound(&self, height: u8) -> bool {
         self.side <= 3
-            && strictly_placed(self.x1, self.y1, self.x2, self.y2)
+            && strictly_placed(height, self.x1, self.y1, self.x2, self.y2)
             && self.value as usize <= self.length()
     }
 }
 
 impl Strip {
-    fn sound(&self) -> bool {
-        strictly_placed(self.x1, self.y1, self.x2, self.y2)
+    fn sound(&self, height: u8) -> bool {
+        let height = if is(M::StripSoundToRow63) { 64 } else if is(M::StripSoundToRow127) { 128 } else { height };
+        strictly_placed(height, self.x1, self.y1, self.x2, self.y2)
     }
 }
 
-fn strictly_placed(x1: u8, y1: u8, x2: u8, y2: u8) -> bool {
-    on_glass(x1, y1) && on_glass(x2, y2) && x1 < x2 && y1 < y2
+fn strictly_placed(height: u8, x1: u8, y1: u8, x2: u8, y2: u8) -> bool {
+    on_glass(height, x1, y1) && on_glass(height, x2, y2) && x1 < x2 && y1 < y2
+}
+
+/// A state record as it is lent to a feed.
+#[derive(Debug)]
+pub enum Lent<'a> {
+    WrongLength,
+    /// The right length, but bytes that stand for no state; only its height is read.
+    Meaningless { height: u8 },
+    State(&'a mut State),
+}
+
+impl Lent<'_> {
+    /// `None` for a record of the wrong length, or with a height that no glass has.
+    pub fn known_height(&self) -> Option<u8> {
+        let height = match self {
+            Lent::WrongLength => return None,
+            Lent::Meaningless { height } => *height,
+            Lent::State(state) => state.height,
+        };
+        HEIGHTS.contains(&height).then_some(height)
+    }
 }

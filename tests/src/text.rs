@@ -2,7 +2,7 @@
 
 use crate::font::Font;
 use crate::footprint::Footprint;
-use crate::glass::{Glass, HEIGHT, WIDTH};
+use crate::glass::{Glass, WIDTH};
 use crate::machine::Machine;
 use crate::mutants::{is, Mutant as M};
 use crate::state::{Kind, Text};
@@ -23,10 +23,18 @@ impl Machine<'_> {
         let Some(file) = self.files.find(Kind::Font, number) else {
             return Err(22);
         };
-        if Font::open(&file.bytes).is_none() {
+        if Font::open(&file.bytes, self.tallest_font()).is_none() {
             return Err(23);
         }
         Ok(file.bytes.clone())
+    }
+
+    /// A font may be as high as the glass.
+    fn tallest_font(&self) -> u8 {
+        if is(M::FontHeightLimitIsScrollRow) {
+            return self.state.text.scroll_row;
+        }
+        self.state.height
     }
 
     /// 49.
@@ -48,7 +56,8 @@ impl Machine<'_> {
             return Err(17);
         }
         let bytes = self.font_bytes(self.state.text.font)?;
-        let font = Font::open(&bytes).ok_or(23)?;
+        let font = Font::open(&bytes, self.tallest_font()).ok_or(23)?;
+        let rows = if is(M::PlaceMustBeAboveRow64) { 64 } else { self.state.height as usize };
         let text = &mut self.state.text;
         if column == 0 || row == 0 {
             return Err(17);
@@ -67,7 +76,7 @@ impl Machine<'_> {
             x -= text.left as usize;
         }
         let wide = if is(M::PlaceMustHoldNominal) { font.nominal } else { 1 };
-        if x + wide > WIDTH || y >= HEIGHT {
+        if x + wide > WIDTH || y >= rows {
             return Err(17);
         }
         (text.x, text.y) = (x as u16, y as u16);
@@ -77,16 +86,17 @@ impl Machine<'_> {
     /// A byte that belongs to nothing else: 22, 23, 28, 29.
     pub fn character(&mut self, character: u8) -> Result<Footprint, u8> {
         let bytes = self.font_bytes(self.state.text.font)?;
-        let font = Font::open(&bytes).ok_or(23)?;
+        let font = Font::open(&bytes, self.tallest_font()).ok_or(23)?;
+        let rows = if is(M::BoxMayNotPassRow64) { 64 } else { self.state.height as usize };
         if !font.has(character) {
-            if is(M::NoRoomBeforeOutsideFont) && find_place(&self.state.text, font.nominal, font.height).is_none() {
+            if is(M::NoRoomBeforeOutsideFont) && find_place(&self.state.text, rows, font.nominal, font.height).is_none() {
                 return Err(29);
             }
             return Err(28);
         }
         let width = font.width(character);
         let space = self.state.text.char_space as usize;
-        let Some(place) = find_place(&self.state.text, width, font.height) else {
+        let Some(place) = find_place(&self.state.text, rows, width, font.height) else {
             if is(M::ScrollsBeforeFindingRoom) {
                 if let Some((_, _, rows)) = wrapped(&self.state.text, width, font.height) {
                     self.glass.scroll_up(rows);
@@ -173,10 +183,10 @@ fn wrapped(text: &Text, width: usize, height: usize) -> Option<(usize, usize, us
     Some((left, top, 0))
 }
 
-/// `None` stands for 29.
-fn find_place(text: &Text, width: usize, height: usize) -> Option<Place> {
+/// On a glass of `rows`; `None` stands for 29.
+fn find_place(text: &Text, rows: usize, width: usize, height: usize) -> Option<Place> {
     let (x, y, rows_up) = wrapped(text, width, height)?;
-    if x + width > WIDTH || y + height > HEIGHT {
+    if x + width > WIDTH || y + height > rows {
         return None;
     }
     Some(Place { x, y, rows_up })

@@ -2,12 +2,13 @@
 
 use reference::board::Board;
 use reference::builtin::built_in_font;
+use reference::glass::LOW;
 use std::slice;
 
 /// A board just started on an empty store of this length. It lives as long as the program.
 #[no_mangle]
 pub extern "C" fn reference_start(store_length: usize) -> *mut Board {
-    Box::into_raw(Box::new(Board::fresh(&built_in_font(), vec![0; store_length])))
+    Box::into_raw(Box::new(Board::fresh(&built_in_font(), LOW, vec![0; store_length])))
 }
 
 /// Feeds a piece; the answer is the call's, and `replied` counts the bytes written to `replies`.

@@ -1,31 +1,30 @@
 -- WHAT IS PROMISED OF A LIST OF CALLS, in memory as a caller lends it.
 -- Assumes nothing.
 use mathlib.Core.Path.{_≡_, refl, sym, ap, _∙_, subst}
-use mathlib.Core.List.{List, []}
+use mathlib.Core.List.{List, [], _∷_}
 use mathlib.Core.Bool.{Bool, true, false, cond, not, _&&_, _||_, true≢false}
-use Prim.Native.Nat.{ℕ, zero, suc, _/_, _<_, _≤_}
+use Prim.Native.Nat.{ℕ, zero, suc, _<_, _≤_}
 use native.Mathlib.Omega.{arith}
 use lib.Dec.{eqb}
 use lib.ListN.{length, getD, take, replicate, length-replicate}
 use borrow.Author.Tests.{eq-eqb, eqb-true}
-use Rattle.pixels.specs.Framebuffer.{height}
+use Rattle.canvas.specs.Sizes.{isHeight, lengthFor}
 use Rattle.pixels.proofs.Tests.{by-test}
 use Rattle.directory.specs.Directory.{validOf}
 use Rattle.state.specs.declared.Phase.{Phase}
 use Rattle.state.specs.declared.Phase.the-variants.{Idle, Prefix, Gathering, Inline, Upload}
 use Rattle.state.specs.declared.Refusals.{Refusals}
 use Rattle.state.specs.declared.State.{State}
-use Rattle.state.specs.Soundness.{soundState}
 use Rattle.queue.specs.Record as queue-record
 use Rattle.queue.specs.Record.{Bytes}
 use Rattle.record.specs.Layout.{recordSize}
-use Rattle.record.specs.Reading.{decodeOf}
+use Rattle.record.specs.Reading.{heightIn, decodeOf}
 use Rattle.record.specs.Writing.{encodeOf}
-use Rattle.record.specs.Record.{soundRecord}
+use Rattle.record.specs.Record.{recognised, soundRecord}
 use Rattle.record.proofs.Bytes.{decoded-fits}
 use Rattle.record.proofs.Same.{both}
-use Rattle.record.proofs.Round.{decode-encode, encode-decode, encoded-sound, passed}
-use Rattle.rules.specs.World.{World}
+use Rattle.record.proofs.Round.{decode-encode, encode-decode, encoded-sound, sound-recognised, passed, shown}
+use Rattle.rules.specs.World.{World, height}
 use Rattle.rules.specs.Files.{inUse, lacksSpace}
 use Rattle.rules.specs.Step.{step}
 use Rattle.rules.specs.Calls.{run, taken}
@@ -34,8 +33,8 @@ use Rattle.rules.specs.Sound.{Welcome}
 use Rattle.rules.proofs.ByByte.{demand-3}
 use Rattle.rules.proofs.Replies.{said-fits}
 use Rattle.rules.proofs.Counts.{refusal-count, last-refusal}
-use Rattle.rules.proofs.GoodByte.{good-step, good-start, framebuffer-length, store-length}
-use Rattle.calls.specs.Memory.{framebufferRows, framebufferBytes, Memory, storeFits, uploadRefused, checked, loaded, saved, Kept}
+use Rattle.rules.proofs.GoodByte.{good-step, good-start, height-stays, framebuffer-length, store-length}
+use Rattle.calls.specs.Memory.{framebufferFits, Memory, storeFits, uploadRefused, checked, loaded, saved, Kept}
 use Rattle.calls.specs.Feed.{Fed, fed, fedBytes, feedOf}
 use Rattle.calls.specs.Line.{bothSound}
 use Rattle.calls.specs.Start.{emptied, startChecked, startOf, startWorld}
@@ -52,18 +51,18 @@ pub kept-step : (w : World) (b : ℕ) → Kept w → b < 256 → Kept (step w b)
 kept-step w b k h =
     record {
       good = good-step w b (k .good) h;
-      framebuffer = framebuffer-length w b (k .good) ∙ k .framebuffer;
+      framebuffer = framebuffer-length w b (k .good) ∙ k .framebuffer ∙ ap lengthFor (sym (height-stays w b (k .good) h));
       store = rw (store-length w b (k .good) h) (k .store);
     }
 
 back : (w : World) → Kept w → decodeOf (encodeOf (w .state)) ≡ w .state
 back w k = decode-encode (w .state) (k .good .fits)
 
-record-sound : (w : World) → Kept w → soundRecord framebufferRows (encodeOf (w .state)) ≡ true
-unfolding height
-record-sound w k =
-    encoded-sound framebufferRows (w .state) (k .good .fits) (subst (λ (n : ℕ). soundState (n / 30) (w .state) ≡ true) (k .framebuffer) (k .good .sound))
-    (k .good .thresholds) (k .good .canonical)
+record-sound : (w : World) → Kept w → soundRecord (encodeOf (w .state)) ≡ true
+record-sound w k = encoded-sound (w .state) (k .good .fits) (k .good .sound) (k .good .thresholds) (k .good .canonical)
+
+height-back : (w : World) → Kept w → heightIn (encodeOf (w .state)) ≡ height w
+height-back w k = shown (w .state) (k .good .fits) .height
 
 both-false : (a b : Bool) → a ≡ false → b ≡ false → (a || b) ≡ false
 both-false true b e f = e
@@ -81,10 +80,25 @@ unfolding checked
 pass w k =
     let d = back w k in
     let u = welcome-passes (w .state .port .line .phase) (w .store) (k .good .upload) in
-    rw (eq-eqb (length (w .framebuffer)) framebufferBytes (k .framebuffer), k .store, record-sound w k, k .good .store .valid, d, u)
+    let s = record-sound w k in
+    rw (
+      sound-recognised (encodeOf (w .state)) s,
+      height-back w k,
+      eq-eqb (length (w .framebuffer)) (lengthFor (height w)) (k .framebuffer),
+      k .store,
+      s,
+      k .good .store .valid,
+      d,
+      u,
+    )
 
 pub kept-run : (w : World) (l : List ℕ) → Kept w → AllBytes l → Kept (run w l)
 kept-run = good-run Kept kept-step back pass record-sound
+
+height-run : (w : World) (l : List ℕ) → Kept w → AllBytes l → height (run w l) ≡ height w
+unfolding run
+height-run w [] k h = refl
+height-run w (b ∷ l) k h = height-run (step w b) l (kept-step w b k (h .0)) (h .1) ∙ height-stays w b (k .good) (h .0)
 
 -- written and read back
 pub loaded-saved : (w : World) → Kept w → loaded (saved w) ≡ w
@@ -116,20 +130,21 @@ last-check true k e = absurd (never k e)
 last-check false k e = refl
 
 pub record Checks (m : Memory) : Type 0 where
-  pub framebuffer : length (m .framebuffer) ≡ framebufferBytes
+  pub framebuffer : length (m .framebuffer) ≡ lengthFor (heightIn (m .state))
   pub store : storeFits (m .store) ≡ true
-  pub state : soundRecord framebufferRows (m .state) ≡ true
+  pub state : soundRecord (m .state) ≡ true
   pub valid : validOf (m .store) ≡ true
   pub upload : uploadRefused (m .store) (decodeOf (m .state) .port .line .phase) ≡ false
 
-checks : (m : Memory) → checked m ≡ 0 → Checks m
+pub checks : (m : Memory) → checked m ≡ 0 → Checks m
 unfolding checked
 checks m e =
-    let a = unanswered (eqb (length (m .framebuffer)) framebufferBytes) 0 _ e in
+    let r = unanswered (recognised (m .state)) 2 _ e in
+    let a = unanswered (framebufferFits (heightIn (m .state)) (m .framebuffer)) 0 _ (r .1) in
     let b = unanswered (storeFits (m .store)) 1 _ (a .1) in
-    let c = unanswered (soundRecord framebufferRows (m .state)) 2 _ (b .1) in
+    let c = unanswered (soundRecord (m .state)) 2 _ (b .1) in
     let d = neither (validOf (m .store)) _ (last-check _ 3 (c .1)) in
-    record { framebuffer = eqb-true (length (m .framebuffer)) framebufferBytes (a .0); store = b .0; state = c .0; valid = d .0; upload = d .1 }
+    record { framebuffer = eqb-true (length (m .framebuffer)) (lengthFor (heightIn (m .state))) (a .0); store = b .0; state = c .0; valid = d .0; upload = d .1 }
 
 neither-use : (a b : Bool) → (a || b) ≡ false → (a ≡ false) × (b ≡ false)
 neither-use true b e = absurd (true≢false e)
@@ -143,18 +158,18 @@ passes-welcome (Inline x1 y1 x2 y2 came) s h = tt
 passes-welcome (Upload kind number size stored waiting byte) s h = neither-use (inUse s kind number) (lacksSpace s size) h
 
 pub checked-kept : (m : Memory) → ByteMemory m → checked m ≡ 0 → Kept (loaded m)
-unfolding height
+unfolding decodeOf
 checked-kept m b e =
     let c = checks m e in
-    let p = passed framebufferRows (m .state) (c .state) in
+    let p = passed (m .state) (c .state) in
     record {
       good = record {
-        sound = subst (λ (n : ℕ). soundState (n / 30) (decodeOf (m .state)) ≡ true) (sym (c .framebuffer)) (p .sound);
+        sound = p .sound;
         thresholds = p .thresholds;
         canonical = p .canonical;
         fits = decoded-fits (m .state) (b .state);
         store = record { bytes = b .store; valid = c .valid };
-        framebuffer = record { bytes = b .framebuffer; low = omega (arith, c .framebuffer) };
+        framebuffer = b .framebuffer;
         upload = passes-welcome (decodeOf (m .state) .port .line .phase) (m .store) (c .upload);
       };
       framebuffer = c .framebuffer;
@@ -162,7 +177,7 @@ checked-kept m b e =
     }
 
 pub saved-loaded : (m : Memory) → checked m ≡ 0 → saved (loaded m) ≡ m
-saved-loaded m e = rw (encode-decode framebufferRows (m .state) (checks m e .state))
+saved-loaded m e = rw (encode-decode (m .state) (checks m e .state))
 
 -- ---- any list of calls
 
@@ -183,8 +198,9 @@ served-saved w q cs k h =
       inside = rw d (λ n. bars-inside (run w (take n l)) (kept-run w (take n l) k (take-bytes n l (consumed-bytes (board (saved w) q) cs h))));
       count = rw d (ap (λ (r : Refusals). r .count) e ∙ refusal-count w l z c);
       last = rw d (ap (λ (r : Refusals). r .last) e ∙ last-refusal w l z c);
+      height = ap (λ (m : Memory). heightIn (m .state)) (s .left) ∙ height-back v (s .kept) ∙ height-run w l k (consumed-bytes (board (saved w) q) cs h) ∙ sym (height-back w k);
       again = ap checked (s .left) ∙ pass v (s .kept);
-      line-again = λ f. both-true _ _ (ap (λ (m : Memory). soundRecord framebufferRows (m .state)) (s .left) ∙ record-sound v (s .kept)) (s .queue-kept f);
+      line-again = λ f. both-true _ _ (ap (λ (m : Memory). soundRecord (m .state)) (s .left) ∙ record-sound v (s .kept)) (s .queue-kept f);
     }
 
 -- THE THEOREM, from any memory that passes the checks and any queue record
@@ -220,54 +236,63 @@ zeros zero i = omega arith
 zeros (suc n) zero = omega arith
 zeros (suc n) (suc i) = zeros n i
 
-pub record StartChecks (m : Memory) (q : List ℕ) : Type 0 where
+pub record StartChecks (h : ℕ) (m : Memory) (q : List ℕ) : Type 0 where
+  pub height : isHeight h ≡ true
   pub queue-size : length q ≡ 85
   pub store : storeFits (m .store) ≡ true
   pub valid : validOf (m .store) ≡ true
 
-start-checks : (m : Memory) (q : List ℕ) → startChecked m q ≡ 0 → StartChecks m q
+start-checks : (h : ℕ) (m : Memory) (q : List ℕ) → startChecked h m q ≡ 0 → StartChecks h m q
 unfolding startChecked
-start-checks m q e =
-    let a = unanswered (eqb (length (m .framebuffer)) framebufferBytes) 0 _ e in
+start-checks h m q e =
+    let c = unanswered (isHeight h && eqb (length (m .state)) recordSize && eqb (length q) queue-record.recordSize) 2 _ e in
+    let a = unanswered (framebufferFits h (m .framebuffer)) 0 _ (c .1) in
     let b = unanswered (storeFits (m .store)) 1 _ (a .1) in
-    let c = unanswered (eqb (length (m .state)) recordSize && eqb (length q) queue-record.recordSize) 2 _ (b .1) in
-    let d = both (eqb (length (m .state)) recordSize) (eqb (length q) queue-record.recordSize) (c .0) in
-    record { queue-size = eqb-true (length q) 85 (d .1); store = b .0; valid = unanswered (validOf (m .store)) 3 0 (c .1) .0 }
+    let d = both (isHeight h && eqb (length (m .state)) recordSize) (eqb (length q) queue-record.recordSize) (c .0) in
+    record {
+      height = both (isHeight h) (eqb (length (m .state)) recordSize) (d .0) .0;
+      queue-size = eqb-true (length q) 85 (d .1);
+      store = b .0;
+      valid = unanswered (validOf (m .store)) 3 0 (b .1) .0;
+    }
 
-pub start-kept : (m : Memory) (q : List ℕ) → Bytes (m .store) → startChecked m q ≡ 0 → Kept (startWorld (m .store))
-start-kept m q b e =
-    let c = start-checks m q e in
-    let g : List ℕ = replicate framebufferBytes 0 in
-    let n : length g ≡ framebufferBytes = length-replicate {A = ℕ} framebufferBytes 0 in
-    record { good = good-start framebufferRows g (m .store) n (omega arith) (zeros framebufferBytes) b (c .valid); framebuffer = n; store = c .store }
+pub start-kept : (h : ℕ) (m : Memory) (q : List ℕ) → Bytes (m .store) → startChecked h m q ≡ 0 → Kept (startWorld h (m .store))
+start-kept h m q b e =
+    let c = start-checks h m q e in
+    let g : List ℕ = replicate (lengthFor h) 0 in
+    record {
+      good = good-start h g (m .store) (c .height) (zeros (lengthFor h)) b (c .valid);
+      framebuffer = length-replicate {A = ℕ} (lengthFor h) 0;
+      store = c .store;
+    }
 
 -- after a start that answers 0 every check passes, and the world is the start's
-pub start-passes : (m : Memory) (q : List ℕ) → Bytes (m .store) → startChecked m q ≡ 0
-    → (checked (startOf m q .left) ≡ 0) × (loaded (startOf m q .left) ≡ startWorld (m .store))
+pub start-passes : (h : ℕ) (m : Memory) (q : List ℕ) → Bytes (m .store) → startChecked h m q ≡ 0
+    → (checked (startOf h m q .left) ≡ 0) × (loaded (startOf h m q .left) ≡ startWorld h (m .store))
 unfolding startOf
-start-passes m q b e =
-    let k = start-kept m q b e in
-    rw e (pass (startWorld (m .store)) k, rw (back (startWorld (m .store)) k))
+start-passes h m q b e =
+    let k = start-kept h m q b e in
+    rw e (pass (startWorld h (m .store)) k, rw (back (startWorld h (m .store)) k))
 
 -- and the queue record is sound
-pub start-queue : (m : Memory) (q : List ℕ) → startChecked m q ≡ 0 → queue-record.soundRecord (startOf m q .queue) ≡ true
+pub start-queue : (h : ℕ) (m : Memory) (q : List ℕ) → startChecked h m q ≡ 0 → queue-record.soundRecord (startOf h m q .queue) ≡ true
 unfolding startOf
-start-queue m q e = rw e (emptied-sound q (start-checks m q e .queue-size))
+start-queue h m q e = rw e (emptied-sound q (start-checks h m q e .queue-size))
 
 -- what it leaves is that world, written, and an empty queue
-pub start-left : (m : Memory) (q : List ℕ) → startChecked m q ≡ 0 → board (saved (startWorld (m .store))) (emptied q) ≡ board (startOf m q .left) (startOf m q .queue)
+pub start-left : (h : ℕ) (m : Memory) (q : List ℕ) → startChecked h m q ≡ 0 → board (saved (startWorld h (m .store))) (emptied q) ≡ board (startOf h m q .left) (startOf h m q .queue)
 unfolding startOf
-start-left m q e = rw e
+start-left h m q e = rw e
 
-pub started-whole : (m : Memory) (q : List ℕ) (cs : List Call) → Bytes (m .store) → startChecked m q ≡ 0 → BytesInAll cs → EnoughAll (startWorld (m .store)) (chunksIn cs)
-    → consumedAll (board (startOf m q .left) (startOf m q .queue)) cs ≡ joined (chunksIn cs)
-started-whole m q cs b e h t =
-    subst (λ (x : Board). consumedAll x cs ≡ joined (chunksIn cs)) (start-left m q e)
-    (consumed-whole Kept kept-step back pass record-sound (startWorld (m .store)) (emptied q) cs (start-kept m q b e) h t)
+pub started-whole : (h : ℕ) (m : Memory) (q : List ℕ) (cs : List Call) → Bytes (m .store) → startChecked h m q ≡ 0 → BytesInAll cs → EnoughAll (startWorld h (m .store)) (chunksIn cs)
+    → consumedAll (board (startOf h m q .left) (startOf h m q .queue)) cs ≡ joined (chunksIn cs)
+started-whole h m q cs b e k t =
+    subst (λ (x : Board). consumedAll x cs ≡ joined (chunksIn cs)) (start-left h m q e)
+    (consumed-whole Kept kept-step back pass record-sound (startWorld h (m .store)) (emptied q) cs (start-kept h m q b e) k t)
 
 -- THE THEOREM, from a start that answers 0
-pub started-served : (m : Memory) (q : List ℕ) (cs : List Call) → Bytes (m .store) → startChecked m q ≡ 0 → BytesInAll cs
-    → Served (board (startOf m q .left) (startOf m q .queue)) cs
+pub started-served : (h : ℕ) (m : Memory) (q : List ℕ) (cs : List Call) → Bytes (m .store) → startChecked h m q ≡ 0 → BytesInAll cs
+    → Served (board (startOf h m q .left) (startOf h m q .queue)) cs
 unfolding startOf
-started-served m q cs b e h =
-    rw e (served-saved (startWorld (m .store)) (emptied q) cs (start-kept m q b e) h)
+started-served h m q cs b e k =
+    rw e (served-saved (startWorld h (m .store)) (emptied q) cs (start-kept h m q b e) k)

@@ -3,14 +3,15 @@
 use mathlib.Core.Path.{_≡_, refl}
 use mathlib.Core.Bool.{Bool, true, false, _&&_}
 use mathlib.Core.List.{List, [], _∷_, _++_}
-use Prim.Native.Nat.{ℕ, _/_, _<_}
+use Prim.Native.Nat.{ℕ, _<_}
 use native.Mathlib.Omega.{arith}
 use lib.Dec.{eqb, ltb}
 use lib.ListN.{length, take}
 use borrow.Author.Tests.{eqb-true, ltb-true}
 use Rattle.pixels.specs.Framebuffer.{width, On}
 use Rattle.pixels.proofs.Tests.{and-one, and-two}
-use Rattle.pixels.proofs.Touch.{rectangle-true}
+use Rattle.pixels.proofs.Fit.{rectangle-fits}
+use Rattle.canvas.proofs.Heights.{height-some}
 use Rattle.bar_graph.specs.declared.Bar.{Bar}
 use Rattle.bar_graph.specs.Bars.{rectangleOf}
 use Rattle.bar_ledger.specs.Ledger.{along}
@@ -19,7 +20,7 @@ use Rattle.state.specs.State.{noBar, barAt}
 use Rattle.state.specs.Soundness.{every, soundCorners, soundSetUp, soundBar}
 use Rattle.state.specs.Canonical.{blank, canonicalBar}
 use Rattle.state.proofs.Every.{every-at}
-use Rattle.rules.specs.World.{World, panel}
+use Rattle.rules.specs.World.{World, height, panel}
 use Rattle.rules.specs.Step.{step}
 use Rattle.rules.specs.Calls.{run}
 use Rattle.rules.proofs.Good.{parts}
@@ -52,17 +53,15 @@ unfolding soundBar canonicalBar
 cornered h s true o p e f = set-up-cornered h (s .bar) (rw o at e)
 cornered h s false o p e f = blank-cornered h (s .bar) p (rw o at f)
 
-on-it : (n : ℕ) (b : Bar) (x y : ℕ) → Cornered (n / 30) b → rectangleOf b x y ≡ true → On n x y
-on-it n b x y c e = let r = rectangle-true (b .x1) (b .y1) (b .x2) (b .y2) x y e in (omega (arith, c .x2, r), omega (arith, c .x2, c .y2, r))
-
 pub bars-inside : (w : World) → Kept w → (i x y : ℕ) → rectangleOf (barAt (panel w) i .bar) x y ≡ true → On (length (w .framebuffer)) x y
 unfolding soundBar canonicalBar every
 bars-inside w k i x y e =
     let b = parts (k .good) .panel-good .bars in
-    let n = length (w .framebuffer) in
-    let s = every-at (soundBar (n / 30)) (panel w .bars) i noBar refl (b .sound) in
+    let n = height w in
+    let s = every-at (soundBar n) (panel w .bars) i noBar refl (b .sound) in
     let c = every-at canonicalBar (panel w .bars) i noBar refl (b .canonical) in
-    on-it n (barAt (panel w) i .bar) x y (cornered (n / 30) (barAt (panel w) i) (barAt (panel w) i .on) refl (omega (arith, k .framebuffer)) s c) e
+    let q = cornered n (barAt (panel w) i) (barAt (panel w) i .on) refl (height-some n (parts (k .good) .height .known)) s c in
+    rw (k .framebuffer) (rectangle-fits n _ _ _ _ x y (q .x2) (q .y2) e)
 
 -- ---- along a list of calls
 

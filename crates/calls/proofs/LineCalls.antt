@@ -12,12 +12,11 @@ use Rattle.queue.proofs.Contents.{arrival-sound, take-sound}
 use Rattle.queue.proofs.Round.{decoded-sound, encoded-sound}
 use Rattle.record.specs.Record as state-record
 use Rattle.record.proofs.Same.{both}
-use Rattle.calls.specs.Memory.{framebufferRows}
 use Rattle.calls.specs.Start.{emptied}
 use Rattle.calls.specs.Line.{bothSound, flowIn, served, arriveCall, takeCall}
 
 pub queue-sound : (r q : List ℕ) → bothSound r q ≡ true → soundRecord q ≡ true
-queue-sound r q e = both (state-record.soundRecord framebufferRows r) (soundRecord q) e .1
+queue-sound r q e = both (state-record.soundRecord r) (soundRecord q) e .1
 
 pub arrive-again : (r q : List ℕ) (b : ℕ) → bothSound r q ≡ true → soundRecord (arriveCall r q b .queue) ≡ true
 unfolding arriveCall

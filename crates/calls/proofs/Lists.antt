@@ -16,7 +16,7 @@ use Rattle.rules.specs.Step.{step}
 use Rattle.rules.specs.Calls.{run, said, taken}
 use Rattle.rules.specs.Chunks.{joined, EnoughAll}
 use Rattle.rules.proofs.Streams.{run-append, said-append, taken-whole}
-use Rattle.calls.specs.Memory.{framebufferRows, checked, loaded, saved}
+use Rattle.calls.specs.Memory.{checked, loaded, saved}
 use Rattle.calls.specs.Feed.{Fed, fedBytes, feedOf}
 use Rattle.calls.specs.Line.{bothSound, arriveCall, takeCall}
 use Rattle.calls.specs.List.{board, Call, feeds, arrives, takes, afterAll, consumedAll, sentAll, chunksIn}
@@ -34,7 +34,7 @@ both-true a b e f = rw (e, f)
 -- what is kept by every byte, is written and read back, and passes the checks
 module _ (Good : World → Type 0) (good : (w : World) (b : ℕ) → Good w → b < 256 → Good (step w b))
     (back : (w : World) → Good w → decodeOf (encodeOf (w .state)) ≡ w .state) (pass : (w : World) → Good w → checked (saved w) ≡ 0)
-    (sound : (w : World) → Good w → soundRecord framebufferRows (encodeOf (w .state)) ≡ true) where
+    (sound : (w : World) → Good w → soundRecord (encodeOf (w .state)) ≡ true) where
   pub good-run : (w : World) (l : List ℕ) → Good w → AllBytes l → Good (run w l)
   unfolding run
   good-run w [] g h = g
@@ -49,7 +49,7 @@ module _ (Good : World → Type 0) (good : (w : World) (b : ℕ) → Good w → 
   fed-saved w p room g = rw (pass w g, read-back w g)
 
   line-sound : (w : World) (q : List ℕ) → Good w → queue-record.soundRecord q ≡ true → bothSound (encodeOf (w .state)) q ≡ true
-  line-sound w q g s = both-true (soundRecord framebufferRows (encodeOf (w .state))) (queue-record.soundRecord q) (sound w g) s
+  line-sound w q g s = both-true (soundRecord (encodeOf (w .state))) (queue-record.soundRecord q) (sound w g) s
 
   -- what a list of calls leaves and sends is what the stream of the bytes consumed leaves and sends
   pub record Streamed (w : World) (q : List ℕ) (cs : List Call) : Type 0 where

@@ -9,11 +9,10 @@ use Rattle.queue.specs.Record as queue-record
 pub use Rattle.queue.specs.Record.{Served, served, arrived, handed}
 use Rattle.record.specs.Reading.{decodeOf}
 use Rattle.record.specs.Record.{soundRecord}
-use Rattle.calls.specs.Memory.{framebufferRows}
 
 -- 3 unless both records are sound
 abbrev pub bothSound : List ℕ → List ℕ → Bool
-bothSound r q = soundRecord framebufferRows r && queue-record.soundRecord q
+bothSound r q = soundRecord r && queue-record.soundRecord q
 
 abbrev pub flowIn : List ℕ → Flow
 flowIn r = decodeOf r .port .flow

@@ -6,22 +6,20 @@ use mathlib.Core.Bool.{Bool, true, false, cond, not, _&&_, _||_}
 use Prim.Native.Nat.{ℕ}
 use lib.Dec.{eqb, leb}
 use lib.ListN.{length}
+use Rattle.canvas.specs.Sizes.{lengthFor}
 use Rattle.directory.specs.Directory.{validOf}
 use Rattle.state.specs.declared.Phase.{Phase}
 use Rattle.state.specs.declared.Phase.the-variants.{Idle, Prefix, Gathering, Inline, Upload}
-use Rattle.record.specs.Reading.{decodeOf}
+use Rattle.record.specs.Reading.{heightIn, decodeOf}
 use Rattle.record.specs.Writing.{encodeOf}
-use Rattle.record.specs.Record.{soundRecord}
-use Rattle.rules.specs.World.{World, world}
+use Rattle.record.specs.Record.{recognised, soundRecord}
+use Rattle.rules.specs.World.{World, world, height}
 use Rattle.rules.specs.Files.{inUse, lacksSpace}
 use Rattle.rules.specs.Sound.{Good}
 
--- the framebuffer's rows, and its bytes
-abbrev pub framebufferRows : ℕ
-framebufferRows = 64
-
-abbrev pub framebufferBytes : ℕ
-framebufferBytes = 1920
+-- as long as h rows are
+abbrev pub framebufferFits : ℕ → List ℕ → Bool
+framebufferFits h g = eqb (length g) (lengthFor h)
 
 abbrev pub storeFits : List ℕ → Bool
 storeFits s = leb 1024 (length s) && leb (length s) 32768
@@ -43,13 +41,14 @@ uploadRefused s (Gathering code got) = false
 uploadRefused s (Inline x1 y1 x2 y2 came) = false
 uploadRefused s (Upload kind number size stored waiting byte) = inUse s kind number || lacksSpace s size
 
--- THE CHECKS OF A PIECE: the answer 1 to 4 that it is refused with, or 0
+-- THE CHECKS OF A PIECE: the answer 1 to 4 that it is refused with, or 0. The record says how long the framebuffer has to be, so that it is recognised first
 unfoldable pub checked : Memory → ℕ
 checked m =
-    cond (not (eqb (length (m .framebuffer)) framebufferBytes)) 1
+    cond (not (recognised (m .state))) 3
+    (cond (not (framebufferFits (heightIn (m .state)) (m .framebuffer))) 1
     (cond (not (storeFits (m .store))) 2
-    (cond (not (soundRecord framebufferRows (m .state))) 3
-    (cond (not (validOf (m .store)) || uploadRefused (m .store) (decodeOf (m .state) .port .line .phase)) 4 0)))
+    (cond (not (soundRecord (m .state))) 3
+    (cond (not (validOf (m .store)) || uploadRefused (m .store) (decodeOf (m .state) .port .line .phase)) 4 0))))
 
 -- memory read, and a world written back
 abbrev pub loaded : Memory → World
@@ -61,5 +60,5 @@ saved w = memory (w .framebuffer) (w .store) (encodeOf (w .state))
 -- A WORLD THAT EVERY CHECK PASSES
 pub record Kept (w : World) : Type 0 where
   pub good : Good w
-  pub framebuffer : length (w .framebuffer) ≡ framebufferBytes
+  pub framebuffer : length (w .framebuffer) ≡ lengthFor (height w)
   pub store : storeFits (w .store) ≡ true

@@ -9,7 +9,7 @@ use Rattle.pixels.specs.Framebuffer.{On}
 use Rattle.bar_graph.specs.Bars.{rectangleOf}
 use Rattle.bar_ledger.specs.Claim.{Agrees}
 use Rattle.queue.specs.Record as queue-record
-use Rattle.record.specs.Reading.{decodeOf}
+use Rattle.record.specs.Reading.{heightIn, decodeOf}
 use Rattle.state.specs.State.{barAt}
 use Rattle.rules.specs.World.{port, panel}
 use Rattle.rules.specs.Step.{step}
@@ -34,6 +34,8 @@ pub record Served (b : Board) (cs : List Call) : Type 0 where
   -- the history of refusals
   pub count : decodeOf (afterAll b cs .memory .state) .port .refusals .count ≡ (port (loaded (b .memory)) .refusals .count + refusedOf (loaded (b .memory)) (consumedAll b cs)) % 65536
   pub last : decodeOf (afterAll b cs .memory .state) .port .refusals .last ≡ lastOf (loaded (b .memory)) (consumedAll b cs) (port (loaded (b .memory)) .refusals .last)
+  -- the height stays
+  pub height : heightIn (afterAll b cs .memory .state) ≡ heightIn (b .memory .state)
   -- the next call passes the checks again: a piece, and an arrival or a take
   pub again : checked (afterAll b cs .memory) ≡ 0
   pub line-again : queue-record.soundRecord (b .queue) ≡ true → bothSound (afterAll b cs .memory .state) (afterAll b cs .queue) ≡ true

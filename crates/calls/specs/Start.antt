@@ -1,17 +1,18 @@
--- Starting: a white framebuffer, the start's state, an empty queue; the store stays.
+-- Starting with a height of h rows: a white framebuffer, the start's state, an empty queue; the store stays.
 -- Assumes nothing.
 use mathlib.Core.List.{List, [], _∷_, _++_}
 use mathlib.Core.Bool.{cond, not, _&&_}
 use Prim.Native.Nat.{ℕ}
 use lib.Dec.{eqb}
 use lib.ListN.{length, take, replicate}
+use Rattle.canvas.specs.Sizes.{isHeight, lengthFor}
 use Rattle.directory.specs.Directory.{validOf}
 use Rattle.queue.specs.Record as queue-record
 use Rattle.state.specs.State.{startState}
 use Rattle.rules.specs.World.{World, world}
 use Rattle.record.specs.Layout.{recordSize}
 use Rattle.record.specs.Writing.{encodeOf}
-use Rattle.calls.specs.Memory.{framebufferRows, framebufferBytes, storeFits, Memory, memory}
+use Rattle.calls.specs.Memory.{framebufferFits, storeFits, Memory, memory}
 
 pub record Started : Type 0 where
   pub left : Memory
@@ -21,23 +22,23 @@ pub record Started : Type 0 where
 abbrev pub started : Memory → List ℕ → ℕ → Started
 started m q a = record { left = m; queue = q; answer = a }
 
--- lengths first (1, 2, 3), then the directory (4)
-unfoldable pub startChecked : Memory → List ℕ → ℕ
-startChecked m q =
-    cond (not (eqb (length (m .framebuffer)) framebufferBytes)) 1
+-- the chosen height and the lengths of both records (3), the lengths of framebuffer and store (1, 2), then the directory (4)
+unfoldable pub startChecked : ℕ → Memory → List ℕ → ℕ
+startChecked h m q =
+    cond (not (isHeight h && eqb (length (m .state)) recordSize && eqb (length q) queue-record.recordSize)) 3
+    (cond (not (framebufferFits h (m .framebuffer))) 1
     (cond (not (storeFits (m .store))) 2
-    (cond (not (eqb (length (m .state)) recordSize && eqb (length q) queue-record.recordSize)) 3
     (cond (not (validOf (m .store))) 4 0)))
 
 -- place, held count, mark and lost count are 0; the ring's bytes stay
 abbrev pub emptied : List ℕ → List ℕ
 emptied q = take 80 q ++ (0 ∷ 0 ∷ 0 ∷ 0 ∷ 0 ∷ [])
 
-unfoldable pub startOf : Memory → List ℕ → Started
-startOf m q =
-    cond (eqb (startChecked m q) 0) (started (memory (replicate framebufferBytes 0) (m .store) (encodeOf (startState framebufferRows))) (emptied q) 0)
-    (started m q (startChecked m q))
+unfoldable pub startOf : ℕ → Memory → List ℕ → Started
+startOf h m q =
+    cond (eqb (startChecked h m q) 0) (started (memory (replicate (lengthFor h) 0) (m .store) (encodeOf (startState h))) (emptied q) 0)
+    (started m q (startChecked h m q))
 
 -- the world that a start leaves
-abbrev pub startWorld : List ℕ → World
-startWorld s = world (replicate framebufferBytes 0) s (startState framebufferRows)
+abbrev pub startWorld : ℕ → List ℕ → World
+startWorld h s = world (replicate (lengthFor h) 0) s (startState h)

@@ -1,3 +1,4 @@
+pub mod Heights
 pub mod Strokes
 pub mod Lent
 pub mod Footprint

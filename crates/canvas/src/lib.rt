@@ -2,18 +2,40 @@
 ghost use mathlib.Core.Path.{_≡_};
 ghost use Rattle.pixels.specs.Framebuffer.{cell, fill, black, rowStart};
 ghost use Rattle.pixels.specs.Regions.{point};
+ghost use Rattle.canvas.specs.Sizes.{isHeight, lengthFor};
 ghost use Rattle.canvas.specs.Colour.{colourOf};
 ghost use Prim.Native.Nat.{min};
 ghost use Rattle.canvas.specs.Canvas.{paintedOf, masked, RowsAre};
 
-// The sizes of the framebuffer: columns, rows, bytes in a row, and bytes in all.
+// The sizes of the framebuffer: columns, and bytes in a row.
 pub const WIDTH: u16 = 240;
-
-pub const HEIGHT: u16 = 64;
 
 pub const STRIDE: usize = 30;
 
-pub const LENGTH: usize = 1920;
+// The two heights that there are, in rows, with their bytes.
+pub const LOW_HEIGHT: u8 = 64;
+
+pub const LOW_LENGTH: usize = STRIDE * (LOW_HEIGHT as usize);
+
+pub const TALL_HEIGHT: u8 = 128;
+
+pub const TALL_LENGTH: usize = STRIDE * (TALL_HEIGHT as usize);
+
+pub fn is_height(height: u32) -> bool
+    ensures { λ r. ⌜ r ≡ isHeight height ⌝ }
+{
+    if height == LOW_HEIGHT as u32 {
+        return true;
+    }
+    height == TALL_HEIGHT as u32
+}
+
+// The bytes of so many rows.
+pub fn length_for(height: u8) -> usize
+    ensures { λ r. ⌜ r ≡ lengthFor height ⌝ }
+{
+    STRIDE * (height as usize)
+}
 
 pub struct Colour {
     pub black: bool,

@@ -8,14 +8,13 @@ use native.Mathlib.Nat.{add-zero}
 use lib.ListN.{length, getD, take, drop, set, length-append, drop-of-length-le}
 use lib.Seq.{sets, length-sets, take-suc, drop-cons}
 use borrow.Author.Tests.{eq-eqb, ne-eqb, lt-ltb, le-ltb}
-use Rattle.pixels.specs.Framebuffer.{height}
 use Rattle.state.specs.declared.Panel.{Panel}
 use Rattle.state.specs.State.{state}
 use Rattle.record.specs.Reading.{panelOf}
 use Rattle.record.specs.Writing.{panelBytes}
 use Rattle.record.proofs.Back.{panel-back}
 use Rattle.panel.proofs.Laws.{revised-whole}
-use Rattle.rules.specs.World.{World, world}
+use Rattle.rules.specs.World.{World, world, height}
 use Rattle.rules.specs.Step.{step, replies, outcome}
 use Rattle.rules.specs.Calls.{run, said, taken}
 use Rattle.rules.proofs.Streams.{run-append, said-append}
@@ -23,7 +22,7 @@ use Rattle.rules.proofs.Replies.{replies-most}
 use Rattle.outcome.specs.declared.Reply.{Reply}
 use Rattle.outcome.specs.Outcome.{sentBy}
 use Rattle.outcome.specs.Contract.{Held, worldOf, Came}
-use Rattle.calls.specs.Memory.{framebufferRows, Kept}
+use Rattle.calls.specs.Memory.{Kept}
 use Rattle.calls.proofs.Demands.{kept-step}
 use Rattle.display.specs.Running.{Written, Ran}
 
@@ -77,11 +76,6 @@ feeding-start w p r k =
     let n : length r - 0 ≡ length r = omega arith in
     let z : taken w (length r) p ≡ 0 + taken w (length r) p = omega arith in
     record { kept = k; within = omega arith; next = refl; sent = refl; long = refl; room = omega arith; left = z ∙ ap (λ (m : ℕ). 0 + taken w m p) (sym n) }
-
--- the framebuffer is as high as a kept world's is
-pub tall : (w : World) → Kept w → height (w .framebuffer) ≡ framebufferRows
-unfolding height
-tall w k = omega (arith, k .framebuffer)
 
 pub room-known : {w₀ w : World} {p r₀ r : List ℕ} {at i : ℕ} → Feeding w₀ p r₀ w r at i → (length r ≡ length r₀) × (at ≤ length r)
 room-known {w₀ = w₀} {p = p} {r₀ = r₀} {r = r} {i = i} f =
@@ -159,7 +153,7 @@ stepped m n b l k small written came =
     ap (λ (x : Held). x .panel-bytes) (came .next) ∙ revised-whole (m .panel-bytes) (v .state .panel) (written .again) (f .sixteen) (f .eight) in
     let q : panelOf (n .panel-bytes) ≡ v .state .panel = ap panelOf e ∙ panel-back (v .state .panel) (f .sixteen) (f .eight) in
     record {
-      next = ap (λ (x : Held). world (x .framebuffer) (x .store) (state (x .port) (panelOf (n .panel-bytes)))) (came .next) ∙ ap (λ (y : Panel). world (v .framebuffer) (v .store) (state (v .state .port) y)) q;
+      next = ap (λ (x : Held). world (x .framebuffer) (x .store) (state (x .height) (x .port) (panelOf (n .panel-bytes)))) (came .next) ∙ ap (λ (y : Panel). world (v .framebuffer) (v .store) (state (height v) (v .state .port) y)) q;
       sends = came .sends;
       written = record { again = e ∙ ap panelBytes (sym q) };
     }

@@ -7,12 +7,13 @@ use Prim.Native.Nat.{ℕ, _-_, _<_, _≤_}
 use native.Mathlib.Omega.{arith}
 use native.Mathlib.Nat.{zero-add}
 use lib.Dec.{eqb, leb}
-use lib.ListN.{length, getD, take, drop, set, length-drop, length-append, drop-of-length-le}
-use lib.Seq.{sets-eq, take-all, drop-at, length-take-le}
+use lib.ListN.{length, getD, take, drop, set, length-drop, length-append, take-append-drop, drop-of-length-le}
+use lib.Seq.{sets-eq, take-all, drop-at, drop-cons, drop-drop, drop-append-le, getD-take, length-take-le}
 use borrow.Rule.Slice.PartMut.{putMid, midOf}
 use borrow.Author.Tests.{eq-eqb, ne-eqb, le-leb, lt-leb, not-true, not-false}
 use Rattle.pixels.specs.Framebuffer.{fill}
 use Rattle.pixels.specs.Regions.{everywhere}
+use Rattle.canvas.specs.Sizes.{isHeight, lengthFor}
 use Rattle.scroll.proofs.Bytes.{cleared-zeros}
 use Rattle.directory.specs.Directory.{validOf}
 use Rattle.queue.specs.declared.Flow.{Flow}
@@ -24,19 +25,19 @@ use Rattle.state.specs.declared.Port.{Port}
 use Rattle.state.specs.declared.State.{State}
 use Rattle.state.specs.State.{state, startState}
 use Rattle.state.specs.Fits.{Fits}
-use Rattle.record.specs.Layout.{phaseAt, panelAt, recordSize}
-use Rattle.record.specs.Reading.{portOf, panelOf, decodeOf}
+use Rattle.record.specs.Layout.{phaseAt, portSize, panelAt, panelSize, recordSize}
+use Rattle.record.specs.Reading.{portOf, panelOf, heightIn, decodeOf}
 use Rattle.record.specs.Writing.{portBytes, panelBytes, encodeOf, over}
-use Rattle.record.specs.Record.{encodedIn, soundRecord}
+use Rattle.record.specs.Record.{encodedIn, recognised, soundRecord}
 use Rattle.record.proofs.Bytes.{decoded-fits}
 use Rattle.record.proofs.Overwriting.{over-front}
 use Rattle.record.proofs.Round.{passed}
 use Rattle.record.proofs.Whole.{length-port, written-whole}
 use Rattle.rules.specs.World.{World, world}
 use Rattle.rules.specs.Files.{inUse, lacksSpace}
-use Rattle.rules.specs.Calls.{said, taken}
+use Rattle.rules.specs.Calls.{run, said, taken}
 use Rattle.rules.proofs.Replies.{said-fits}
-use Rattle.calls.specs.Memory.{framebufferRows, framebufferBytes, Memory, memory, storeFits, uploadRefused, checked, loaded, saved, Kept}
+use Rattle.calls.specs.Memory.{Memory, memory, storeFits, uploadRefused, checked, loaded, saved, Kept}
 use Rattle.calls.specs.Feed.{fedBytes, feedOf}
 use Rattle.calls.specs.Start.{started, startChecked, startOf, emptied}
 use Rattle.calls.specs.Line.{arriveCall, takeCall}
@@ -62,83 +63,111 @@ emptied-is q e =
     sets-eq (0 ∷ 0 ∷ 0 ∷ 0 ∷ 0 ∷ []) q 80 (omega (arith, e)) ∙ ap (λ (l : List ℕ). take 80 q ++ (0 ∷ 0 ∷ 0 ∷ 0 ∷ 0 ∷ []) ++ l) (drop-of-length-le q {i = 85} (omega (arith, e)))
     ∙ append-nil (emptied q)
 
-module _ (g s st q : List ℕ) where
-  pub start-1 : (length g ≡ framebufferBytes → ⊥) → started (memory g s st) q 1 ≡ startOf (memory g s st) q
+module _ (h : ℕ) (g s st q : List ℕ) (k : Bool) (known : k ≡ isHeight h) where
+  pub start-3 : not k ≡ true → started (memory g s st) q 3 ≡ startOf h (memory g s st) q
   unfolding startOf startChecked
-  start-1 h = rw (ne-eqb (length g) framebufferBytes h)
+  start-3 n = rw (← known, not-true k n)
 
-  module _ (size : length g ≡ framebufferBytes) (t : Bool) (fits : t ≡ storeFits s) where
-    pub start-2 : not t ≡ true → started (memory g s st) q 2 ≡ startOf (memory g s st) q
+  module _ (is : not k ≡ false) where
+    pub start-3-record : (length st ≡ recordSize → ⊥) → started (memory g s st) q 3 ≡ startOf h (memory g s st) q
     unfolding startOf startChecked
-    start-2 h = rw (eq-eqb (length g) framebufferBytes size, ← fits, h)
+    start-3-record n = rw (← known, not-false k is, ne-eqb (length st) recordSize n)
 
-    module _ (fine : not t ≡ false) where
-      pub start-3 : (length st ≡ 201 → ⊥) → started (memory g s st) q 3 ≡ startOf (memory g s st) q
+    module _ (record-size : length st ≡ recordSize) where
+      pub start-3-queue : (length q ≡ 85 → ⊥) → started (memory g s st) q 3 ≡ startOf h (memory g s st) q
       unfolding startOf startChecked
-      start-3 h = rw (eq-eqb (length g) framebufferBytes size, ← fits, fine, ne-eqb (length st) 201 h)
+      start-3-queue n = rw (← known, not-false k is, eq-eqb (length st) recordSize record-size, ne-eqb (length q) 85 n)
 
-      pub start-3-queue : length st ≡ 201 → (length q ≡ 85 → ⊥) → started (memory g s st) q 3 ≡ startOf (memory g s st) q
-      unfolding startOf startChecked
-      start-3-queue e h = rw (eq-eqb (length g) framebufferBytes size, ← fits, fine, eq-eqb (length st) 201 e, ne-eqb (length q) 85 h)
-
-      module _ (record-size : length st ≡ 201) (queue-size : length q ≡ 85) (v : Bool) (valid : v ≡ validOf s) where
-        pub start-4 : not v ≡ true → started (memory g s st) q 4 ≡ startOf (memory g s st) q
+      module _ (queue-size : length q ≡ 85) (z : ℕ) (sized : z ≡ lengthFor h) where
+        pub start-1 : (length g ≡ z → ⊥) → started (memory g s st) q 1 ≡ startOf h (memory g s st) q
         unfolding startOf startChecked
-        start-4 h = rw (eq-eqb (length g) framebufferBytes size, ← fits, fine, eq-eqb (length st) 201 record-size, eq-eqb (length q) 85 queue-size, ← valid, h)
+        start-1 n = rw (← known, not-false k is, eq-eqb (length st) recordSize record-size, eq-eqb (length q) 85 queue-size, ← sized, ne-eqb (length g) z n)
 
-        pub start-0 : (g' st' q' : List ℕ) (z : State) → not v ≡ false → g' ≡ fill everywhere false g → z ≡ startState framebufferRows → st' ≡ encodedIn z st → q' ≡ emptied q
-            → started (memory g' s st') q' 0 ≡ startOf (memory g s st) q
-        unfolding startOf startChecked
-        start-0 g' st' q' z h eg ez es eq =
-            let wrote : st' ≡ encodeOf (startState framebufferRows) =
-            es ∙ ap (λ (x : State). encodedIn x st) ez ∙ written-whole (startState framebufferRows) st (record { args = refl; bars = refl; strips = refl }) record-size in
-            rw (
-              eq-eqb (length g) framebufferBytes size,
-              ← fits,
-              fine,
-              eq-eqb (length st) 201 record-size,
-              eq-eqb (length q) 85 queue-size,
-              ← valid,
-              h,
-              eg ∙ cleared-zeros g framebufferBytes size,
-              wrote,
-              eq,
-            )
+        module _ (size : length g ≡ z) (t : Bool) (fits : t ≡ storeFits s) where
+          pub start-2 : not t ≡ true → started (memory g s st) q 2 ≡ startOf h (memory g s st) q
+          unfolding startOf startChecked
+          start-2 n =
+              rw (← known, not-false k is, eq-eqb (length st) recordSize record-size, eq-eqb (length q) 85 queue-size, ← sized, eq-eqb (length g) z size, ← fits, n)
+
+          module _ (fine : not t ≡ false) (v : Bool) (valid : v ≡ validOf s) where
+            pub start-4 : not v ≡ true → started (memory g s st) q 4 ≡ startOf h (memory g s st) q
+            unfolding startOf startChecked
+            start-4 n =
+                rw (
+                  ← known,
+                  not-false k is,
+                  eq-eqb (length st) recordSize record-size,
+                  eq-eqb (length q) 85 queue-size,
+                  ← sized,
+                  eq-eqb (length g) z size,
+                  ← fits,
+                  fine,
+                  ← valid,
+                  n,
+                )
+
+            pub start-0 : (g' st' q' : List ℕ) (a : State) → not v ≡ false → g' ≡ fill everywhere false g → a ≡ startState h → st' ≡ encodedIn a st → q' ≡ emptied q
+                → started (memory g' s st') q' 0 ≡ startOf h (memory g s st) q
+            unfolding startOf startChecked
+            start-0 g' st' q' a n eg ea es eq =
+                let wrote : st' ≡ encodeOf (startState h) =
+                es ∙ ap (λ (x : State). encodedIn x st) ea ∙ written-whole (startState h) st (record { args = refl; bars = refl; strips = refl }) record-size in
+                rw (
+                  ← known,
+                  not-false k is,
+                  eq-eqb (length st) recordSize record-size,
+                  eq-eqb (length q) 85 queue-size,
+                  ← sized,
+                  eq-eqb (length g) z size,
+                  ← fits,
+                  fine,
+                  ← valid,
+                  n,
+                  eg ∙ cleared-zeros g z size,
+                  wrote,
+                  eq,
+                )
 
 -- ---- feed
 
-module _ (g s st p r : List ℕ) where
-  pub feed-1 : (length g ≡ framebufferBytes → ⊥) → called 1 (memory g s st) r 0 0 ≡ feedCall (memory g s st) p r
+module _ (g s st p r : List ℕ) (k : Bool) (known : k ≡ recognised st) where
+  pub feed-3-first : not k ≡ true → called 3 (memory g s st) r 0 0 ≡ feedCall (memory g s st) p r
   unfolding feedCall feedOf checked
-  feed-1 h = rw (ne-eqb (length g) framebufferBytes h)
+  feed-3-first n = rw (← known, n)
 
-  module _ (size : length g ≡ framebufferBytes) (t : Bool) (fits : t ≡ storeFits s) where
-    pub feed-2 : not t ≡ true → called 2 (memory g s st) r 0 0 ≡ feedCall (memory g s st) p r
+  module _ (is : not k ≡ false) (h z : ℕ) (read-height : h ≡ heightIn st) (sized : z ≡ lengthFor h) where
+    pub feed-1 : (length g ≡ z → ⊥) → called 1 (memory g s st) r 0 0 ≡ feedCall (memory g s st) p r
     unfolding feedCall feedOf checked
-    feed-2 h = rw (eq-eqb (length g) framebufferBytes size, ← fits, h)
+    feed-1 n = rw (← known, is, ← read-height, ← sized, ne-eqb (length g) z n)
 
-    module _ (fine : not t ≡ false) (u : Bool) (sound : u ≡ soundRecord framebufferRows st) where
-      pub feed-3 : not u ≡ true → called 3 (memory g s st) r 0 0 ≡ feedCall (memory g s st) p r
+    module _ (size : length g ≡ z) (t : Bool) (fits : t ≡ storeFits s) where
+      pub feed-2 : not t ≡ true → called 2 (memory g s st) r 0 0 ≡ feedCall (memory g s st) p r
       unfolding feedCall feedOf checked
-      feed-3 h = rw (eq-eqb (length g) framebufferBytes size, ← fits, fine, ← sound, h)
+      feed-2 n = rw (← known, is, ← read-height, ← sized, eq-eqb (length g) z size, ← fits, n)
 
-      module _ (true-record : not u ≡ false) (v : Bool) (valid : v ≡ validOf s) where
-        pub feed-4 : not v ≡ true → called 4 (memory g s st) r 0 0 ≡ feedCall (memory g s st) p r
+      module _ (fine : not t ≡ false) (u : Bool) (sound : u ≡ soundRecord st) where
+        pub feed-3 : not u ≡ true → called 3 (memory g s st) r 0 0 ≡ feedCall (memory g s st) p r
         unfolding feedCall feedOf checked
-        feed-4 h = rw (eq-eqb (length g) framebufferBytes size, ← fits, fine, ← sound, true-record, ← valid, h)
+        feed-3 n = rw (← known, is, ← read-height, ← sized, eq-eqb (length g) z size, ← fits, fine, ← sound, n)
 
-        module _ (orderly : not v ≡ false) (t' : Port) (b : Bool) (read : t' ≡ portOf st) (blocked : b ≡ uploadRefused s (t' .line .phase)) where
-          in-record : b ≡ uploadRefused s (decodeOf st .port .line .phase)
-          unfolding decodeOf
-          in-record = blocked ∙ ap (λ (x : Port). uploadRefused s (x .line .phase)) read
-
-          pub feed-4-upload : b ≡ true → called 4 (memory g s st) r 0 0 ≡ feedCall (memory g s st) p r
+        module _ (true-record : not u ≡ false) (v : Bool) (valid : v ≡ validOf s) where
+          pub feed-4 : not v ≡ true → called 4 (memory g s st) r 0 0 ≡ feedCall (memory g s st) p r
           unfolding feedCall feedOf checked
-          feed-4-upload h = rw (eq-eqb (length g) framebufferBytes size, ← fits, fine, ← sound, true-record, ← valid, orderly, ← in-record, h)
+          feed-4 n = rw (← known, is, ← read-height, ← sized, eq-eqb (length g) z size, ← fits, fine, ← sound, true-record, ← valid, n)
 
-          pub passes : b ≡ false → checked (memory g s st) ≡ 0
-          unfolding checked
-          passes h = rw (eq-eqb (length g) framebufferBytes size, ← fits, fine, ← sound, true-record, ← valid, orderly, ← in-record, h)
+          module _ (orderly : not v ≡ false) (t' : Port) (b : Bool) (read : t' ≡ portOf st) (blocked : b ≡ uploadRefused s (t' .line .phase)) where
+            in-record : b ≡ uploadRefused s (decodeOf st .port .line .phase)
+            unfolding decodeOf
+            in-record = blocked ∙ ap (λ (x : Port). uploadRefused s (x .line .phase)) read
+
+            pub feed-4-upload : b ≡ true → called 4 (memory g s st) r 0 0 ≡ feedCall (memory g s st) p r
+            unfolding feedCall feedOf checked
+            feed-4-upload n =
+                rw (← known, is, ← read-height, ← sized, eq-eqb (length g) z size, ← fits, fine, ← sound, true-record, ← valid, orderly, ← in-record, n)
+
+            pub passes : b ≡ false → checked (memory g s st) ≡ 0
+            unfolding checked
+            passes n = rw (← known, is, ← read-height, ← sized, eq-eqb (length g) z size, ← fits, fine, ← sound, true-record, ← valid, orderly, ← in-record, n)
 
 fed-0 : (m : Memory) (p r : List ℕ) → checked m ≡ 0 → feedCall m p r ≡ calledBy (fedBytes (loaded m) p (taken (loaded m) (length r) p)) r
 unfolding feedCall feedOf
@@ -158,67 +187,100 @@ feed-0 m p r v st q a n k c ran e = ran-0 (loaded m) p r v st q a n k ran e ∙ 
 
 -- ---- the record's port by value, its panel where it stands
 
-decoded : (st : List ℕ) (t : Port) → t ≡ portOf st → state t (panelOf (drop panelAt st)) ≡ decodeOf st
+decoded : (st : List ℕ) (h : ℕ) (t : Port) → h ≡ heightIn st → t ≡ portOf st → state h t (panelOf (drop panelAt st)) ≡ decodeOf st
 unfolding decodeOf
-decoded st t e = rw e
+decoded st h t e f = rw (e, f)
 
 encoded-panel : (z : State) → Fits z → drop panelAt (encodeOf z) ≡ panelBytes (z .panel)
 unfolding encodeOf
-encoded-panel z f = drop-at (portBytes (z .port)) (panelBytes (z .panel)) 43 (length-port (z .port) (f .port .args .six))
+encoded-panel z f =
+    sym (drop-drop 1 portSize (encodeOf z)) ∙ ap (drop 1) (drop-at (portBytes (z .port)) (z .height ∷ panelBytes (z .panel)) portSize (length-port (z .port) (f .port .args .six)))
 
 -- what memory that passes the checks holds
-pub ready : (g s st : List ℕ) (t : Port) (u : Bool) → ((i : ℕ) → getD g i 0 < 256) → ((i : ℕ) → getD s i 0 < 256) → ((i : ℕ) → getD st i 0 < 256)
-    → checked (memory g s st) ≡ 0 → u ≡ soundRecord framebufferRows st → not u ≡ false → t ≡ portOf st
-    → Kept (world g s (state t (panelOf (drop panelAt st)))) × Written (drop panelAt st) × (length st ≡ recordSize)
+pub ready : (g s st : List ℕ) (h : ℕ) (t : Port) (u : Bool) → ((i : ℕ) → getD g i 0 < 256) → ((i : ℕ) → getD s i 0 < 256) → ((i : ℕ) → getD st i 0 < 256)
+    → checked (memory g s st) ≡ 0 → u ≡ soundRecord st → not u ≡ false → h ≡ heightIn st → t ≡ portOf st
+    → Kept (world g s (state h t (panelOf (drop panelAt st)))) × Written (drop panelAt st) × (length st ≡ recordSize) × (h ≡ heightIn st)
+    × (encodeOf (state h t (panelOf (drop panelAt st))) ≡ st)
 unfolding decodeOf
-ready g s st t u bg bs bt c sound fine read =
+ready g s st h t u bg bs bt c sound fine read-height read =
     let k : Kept (world g s (decodeOf st)) = checked-kept (memory g s st) (record { framebuffer = bg; store = bs; state = bt }) c in
-    let p = passed framebufferRows st (sym sound ∙ not-false u fine) in (
-      subst (λ (x : State). Kept (world g s x)) (sym (decoded st t read)) k,
+    let p = passed st (sym sound ∙ not-false u fine) in (
+      subst (λ (x : State). Kept (world g s x)) (sym (decoded st h t read-height read)) k,
       record { again = ap (drop panelAt) (sym (p .again)) ∙ encoded-panel (decodeOf st) (decoded-fits st bt) },
       p .long,
+      read-height,
+      ap encodeOf (decoded st h t read-height read) ∙ p .again,
     )
 
-pub feed-end : (g s st p r : List ℕ) (t : Port) (g' s' st' : List ℕ) (t' : Port) (q : List ℕ) (a n k : ℕ) → checked (memory g s st) ≡ 0 → t ≡ portOf st
-    → RanOn g s st t p r g' s' st' t' q a n k → called a (memory g' s' st') q n k ≡ feedCall (memory g s st) p r
-feed-end g s st p r t g' s' st' t' q a n k c read ran =
-    feed-0 (memory g s st) p r (world g' s' (state t' (panelOf (drop panelAt st')))) st' q a n k c
-    (subst (λ (x : State). Ran (world g s x) p r (world g' s' (state t' (panelOf (drop panelAt st')))) q a n k) (decoded st t read) (ran .ran)) (ran .record-is)
+pub feed-end : (g s st p r : List ℕ) (h : ℕ) (t : Port) (g' s' st' : List ℕ) (t' : Port) (q : List ℕ) (a n k : ℕ) → checked (memory g s st) ≡ 0 → h ≡ heightIn st → t ≡ portOf st
+    → RanOn g s st h t p r g' s' st' t' q a n k → called a (memory g' s' st') q n k ≡ feedCall (memory g s st) p r
+feed-end g s st p r h t g' s' st' t' q a n k c read-height read ran =
+    feed-0 (memory g s st) p r (world g' s' (state h t' (panelOf (drop panelAt st')))) st' q a n k c
+    (subst (λ (x : State). Ran (world g s x) p r (world g' s' (state h t' (panelOf (drop panelAt st')))) q a n k) (decoded st h t read-height read) (ran .ran)) (ran .record-is)
 
 -- ---- the panel lent on
 
 lent-panel : (m : List ℕ) → length m ≡ recordSize → midOf panelAt (recordSize - panelAt) m ≡ drop panelAt m
-lent-panel m e = take-all 158 (drop 43 m) (omega (arith, e, length-drop 43 m))
+lent-panel m e = take-all panelSize (drop panelAt m) (omega (arith, e, length-drop panelAt m))
 
-pub lent-ready : (g s m : List ℕ) (t : Port)
-    → Kept (world g s (state t (panelOf (drop panelAt m)))) × Written (drop panelAt m) × (length m ≡ recordSize)
-    → Kept (world g s (state t (panelOf (midOf panelAt (recordSize - panelAt) m)))) × Written (midOf panelAt (recordSize - panelAt) m)
-lent-ready g s m t k =
-    (subst (λ (x : List ℕ). Kept (world g s (state t (panelOf x)))) (sym (lent-panel m (k .2))) (k .0), subst Written (sym (lent-panel m (k .2))) (k .1))
+pub lent-ready : (g s m : List ℕ) (h : ℕ) (t : Port)
+    → Kept (world g s (state h t (panelOf (drop panelAt m)))) × Written (drop panelAt m) × (length m ≡ recordSize) × (h ≡ heightIn m)
+    × (encodeOf (state h t (panelOf (drop panelAt m))) ≡ m)
+    → Kept (world g s (state h t (panelOf (midOf panelAt (recordSize - panelAt) m)))) × Written (midOf panelAt (recordSize - panelAt) m)
+lent-ready g s m h t k =
+    (subst (λ (x : List ℕ). Kept (world g s (state h t (panelOf x)))) (sym (lent-panel m (k .2))) (k .0), subst Written (sym (lent-panel m (k .2))) (k .1))
 
-pub ran-on : (g s m : List ℕ) (t : Port) (p r g' s' h m' : List ℕ) (t' : Port) (q : List ℕ) (a n k : ℕ) → length m ≡ recordSize
-    → Ran (world g s (state t (panelOf (midOf panelAt (recordSize - panelAt) m)))) p r (world g' s' (state t' (panelOf h))) q a n k → Written h → length (t' .line .args) ≡ 6
-    → m' ≡ over (portBytes t') phaseAt (putMid panelAt (recordSize - panelAt) m h) → RanOn g s m t p r g' s' m' t' q a n k
+-- what stands in front of the panel: the port, and the height behind it
+front-height : (m : List ℕ) → length m ≡ recordSize → drop portSize (take panelAt m) ≡ heightIn m ∷ []
+front-height m e =
+    let l : length (take panelAt m) ≡ panelAt = length-take-le panelAt m (omega (arith, e)) in
+    drop-cons (take panelAt m) portSize 0 (omega (arith, l)) ∙ rw (getD-take panelAt m portSize 0 (omega arith), drop-of-length-le (take panelAt m) {i = panelAt} (omega (arith, l)))
+
+pub ran-on : (g s m : List ℕ) (h : ℕ) (t : Port) (p r g' s' l m' : List ℕ) (t' : Port) (q : List ℕ) (a n k : ℕ) → length m ≡ recordSize → h ≡ heightIn m
+    → Ran (world g s (state h t (panelOf (midOf panelAt (recordSize - panelAt) m)))) p r (world g' s' (state h t' (panelOf l))) q a n k → Written l → length (t' .line .args) ≡ 6
+    → m' ≡ over (portBytes t') phaseAt (putMid panelAt (recordSize - panelAt) m l) → RanOn g s m h t p r g' s' m' t' q a n k
 unfolding encodeOf
-ran-on g s m t p r g' s' h m' t' q a n k e ran written six wrote =
-    let l = length-port t' six in
-    let lt : length (take 43 m) ≡ 43 = length-take-le 43 m (omega (arith, e)) in
-    let post : drop 158 (drop 43 m) ≡ [] = drop-of-length-le (drop 43 m) {i = 158} (omega (arith, e, length-drop 43 m)) in
-    let x : take 43 m ++ (h ++ drop 158 (drop 43 m)) ≡ take 43 m ++ h = ap (λ (z : List ℕ). take 43 m ++ (h ++ z)) post ∙ ap (λ (z : List ℕ). take 43 m ++ z) (append-nil h) in
-    let d : m' ≡ portBytes t' ++ h =
-    wrote ∙ ap (over (portBytes t') 0) x ∙ over-front (portBytes t') (take 43 m ++ h)
-    ∙ rw (take-all (length (take 43 m ++ h)) (portBytes t') (omega (arith, length-append (take 43 m) h, lt, l)), l, drop-at (take 43 m) h 43 lt) in
-    let f : drop panelAt m' ≡ h = ap (drop 43) d ∙ drop-at (portBytes t') h 43 l in
+ran-on g s m h t p r g' s' l m' t' q a n k e read-height ran written six wrote =
+    let z = length-port t' six in
+    let front = take panelAt m in
+    let lt : length front ≡ panelAt = length-take-le panelAt m (omega (arith, e)) in
+    let post : drop panelSize (drop panelAt m) ≡ [] = drop-of-length-le (drop panelAt m) {i = panelSize} (omega (arith, e, length-drop panelAt m)) in
+    let x : front ++ (l ++ drop panelSize (drop panelAt m)) ≡ front ++ l = ap (λ (y : List ℕ). front ++ (l ++ y)) post ∙ ap (λ (y : List ℕ). front ++ y) (append-nil l) in
+    let d : m' ≡ portBytes t' ++ (h ∷ l) =
+    wrote ∙ ap (over (portBytes t') 0) x ∙ over-front (portBytes t') (front ++ l)
+    ∙ rw (take-all (length (front ++ l)) (portBytes t') (omega (arith, length-append front l, lt, z)), z, drop-append-le portSize front l (omega (arith, lt)), front-height m e, read-height) in
+    let f : drop panelAt m' ≡ l = ap (drop panelAt) d ∙ sym (drop-drop 1 portSize (portBytes t' ++ (h ∷ l))) ∙ ap (drop 1) (drop-at (portBytes t') (h ∷ l) portSize z) in
     record {
       ran =
-          subst (λ (y : List ℕ). Ran (world g s (state t (panelOf (drop panelAt m)))) p r (world g' s' (state t' (panelOf y))) q a n k) (sym f)
-          (subst (λ (y : List ℕ). Ran (world g s (state t (panelOf y))) p r (world g' s' (state t' (panelOf h))) q a n k) (lent-panel m e) ran);
-      record-is = d ∙ ap (λ (y : List ℕ). portBytes t' ++ y) (written .again ∙ ap (λ (y : List ℕ). panelBytes (panelOf y)) (sym f));
+          subst (λ (y : List ℕ). Ran (world g s (state h t (panelOf (drop panelAt m)))) p r (world g' s' (state h t' (panelOf y))) q a n k) (sym f)
+          (subst (λ (y : List ℕ). Ran (world g s (state h t (panelOf y))) p r (world g' s' (state h t' (panelOf l))) q a n k) (lent-panel m e) ran);
+      record-is = d ∙ ap (λ (y : List ℕ). portBytes t' ++ (h ∷ y)) (written .again ∙ ap (λ (y : List ℕ). panelBytes (panelOf y)) (sym f));
+    }
+
+-- where no byte was obeyed the record is as it was
+pub ran-none : (g s m : List ℕ) (h : ℕ) (t : Port) (p r g' s' l m' : List ℕ) (t' : Port) (q : List ℕ) (a n k : ℕ) → length m ≡ recordSize → Written (drop panelAt m)
+    → encodeOf (state h t (panelOf (drop panelAt m))) ≡ m → n ≡ 0
+    → Ran (world g s (state h t (panelOf (midOf panelAt (recordSize - panelAt) m)))) p r (world g' s' (state h t' (panelOf l))) q a n k → Written l
+    → m' ≡ putMid panelAt (recordSize - panelAt) m l → RanOn g s m h t p r g' s' m' t' q a n k
+unfolding run
+ran-none g s m h t p r g' s' l m' t' q a n k e before again none ran written wrote =
+    let b : List ℕ = drop panelAt m in
+    let start : Ran (world g s (state h t (panelOf b))) p r (world g' s' (state h t' (panelOf l))) q a n k =
+    subst (λ (y : List ℕ). Ran (world g s (state h t (panelOf y))) p r (world g' s' (state h t' (panelOf l))) q a n k) (lent-panel m e) ran in
+    let same : world g' s' (state h t' (panelOf l)) ≡ world g s (state h t (panelOf b)) =
+    start .next ∙ ap (λ (i : ℕ). run (world g s (state h t (panelOf b))) (take i p)) none in
+    let f : l ≡ b = written .again ∙ ap (λ (w : World). panelBytes (w .state .panel)) same ∙ sym (before .again) in
+    let post : drop panelSize b ≡ [] = drop-of-length-le b {i = panelSize} (omega (arith, e, length-drop panelAt m)) in
+    let d : m' ≡ m = wrote ∙ rw (f, post, append-nil b) (take-append-drop panelAt m) in
+    let i : drop panelAt m' ≡ l = ap (drop panelAt) d ∙ sym f in
+    record {
+      ran = subst (λ (y : List ℕ). Ran (world g s (state h t (panelOf b))) p r (world g' s' (state h t' (panelOf y))) q a n k) (sym i) start;
+      record-is = d ∙ sym again ∙ ap (λ (w : World). encodeOf (w .state)) (sym same) ∙ ap (λ (y : List ℕ). encodeOf (state h t' (panelOf y))) (sym i);
     }
 
 -- ---- arrive and take
 
-module _ (st q : List ℕ) (t : Bool) (sound : t ≡ soundRecord framebufferRows st) where
+module _ (st q : List ℕ) (t : Bool) (sound : t ≡ soundRecord st) where
   pub arrive-3 : (b : ℕ) → not t ≡ true → served 3 0 0 q ≡ arriveCall st q b
   unfolding arriveCall
   arrive-3 b h = rw (← sound, not-true t h)

@@ -30,7 +30,7 @@ pub record Ran (w : World) (p r : List ℕ) (v : World) (q : List ℕ) (answer c
   pub long : replied ≡ length (said w (take consumed p))
   pub says : answer ≡ cond (eqb consumed (length p)) 0 5
 
--- the same from framebuffer g, store s, port t and the panel in the record m to g', s', t' and the record m', which has both
-pub record RanOn (g s m : List ℕ) (t : Port) (p r g' s' m' : List ℕ) (t' : Port) (q : List ℕ) (answer consumed replied : ℕ) : Type 0 where
-  pub ran : Ran (world g s (state t (panelOf (drop panelAt m)))) p r (world g' s' (state t' (panelOf (drop panelAt m')))) q answer consumed replied
-  pub record-is : m' ≡ encodeOf (state t' (panelOf (drop panelAt m')))
+-- the same from framebuffer g, store s, height h, port t and the panel in the record m to g', s', t' and the record m', which has them all
+pub record RanOn (g s m : List ℕ) (h : ℕ) (t : Port) (p r g' s' m' : List ℕ) (t' : Port) (q : List ℕ) (answer consumed replied : ℕ) : Type 0 where
+  pub ran : Ran (world g s (state h t (panelOf (drop panelAt m)))) p r (world g' s' (state h t' (panelOf (drop panelAt m')))) q answer consumed replied
+  pub record-is : m' ≡ encodeOf (state h t' (panelOf (drop panelAt m')))

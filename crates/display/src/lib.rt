@@ -1,6 +1,6 @@
 // The four calls of a board: start, feed, arrive, take. Any bytes, of any length, may be lent to them.
-use canvas::HEIGHT;
-use canvas::LENGTH;
+use canvas::is_height;
+use canvas::length_for;
 use directory::is_valid;
 use interpreter::step;
 use outcome::Reply;
@@ -23,7 +23,8 @@ ghost use lib.ListN.{length, drop};
 ghost use lib.Seq.{sets};
 ghost use Rattle.state.specs.State.{state};
 ghost use Rattle.record.specs.Layout.{panelAt, recordSize};
-ghost use Rattle.record.specs.Reading.{panelOf};
+ghost use Rattle.record.specs.Reading.{heightIn, panelOf};
+ghost use Rattle.record.specs.Writing.{encodeOf};
 ghost use Rattle.rules.specs.World.{world};
 ghost use Rattle.outcome.specs.Outcome.{sentBy};
 ghost use Rattle.calls.specs.Memory.{memory, storeFits, uploadRefused, Kept};
@@ -44,9 +45,6 @@ pub const BAD_RECORD: u32 = 3;
 pub const BAD_DIRECTORY: u32 = 4;
 
 pub const NO_REPLY_ROOM: u32 = 5;
-
-// The framebuffer's rows, in the type of a height.
-pub const ROWS: u8 = HEIGHT as u8;
 
 // The store's bytes, at least and at most.
 pub const STORE_LEAST: usize = 1024;
@@ -84,12 +82,13 @@ fn run(
     framebuffer: &mut [u8],
     store: &mut [u8],
     panel: &mut [u8],
+    height: u8,
     port: Port,
     piece: &[u8],
     replies: &mut [u8],
 ) -> Progress
-    requires { ⌜ Kept (world (now framebuffer) (now store) (state port (panelOf (now panel)))) × Written (now panel) ⌝ }
-    ensures { λ r. ⌜ Ran (world (now (framebuffer .entry)) (now (store .entry)) (state port (panelOf (now (panel .entry))))) (now (piece .entry)) (now (replies .entry)) (world (now (framebuffer .exit)) (now (store .exit)) (state (r .port) (panelOf (now (panel .exit))))) (now (replies .exit)) (r .answer) (r .consumed) (r .replied) × Written (now (panel .exit)) ⌝ }
+    requires { ⌜ Kept (world (now framebuffer) (now store) (state height port (panelOf (now panel)))) × Written (now panel) ⌝ }
+    ensures { λ r. ⌜ Ran (world (now (framebuffer .entry)) (now (store .entry)) (state height port (panelOf (now (panel .entry))))) (now (piece .entry)) (now (replies .entry)) (world (now (framebuffer .exit)) (now (store .exit)) (state height (r .port) (panelOf (now (panel .exit))))) (now (replies .exit)) (r .answer) (r .consumed) (r .replied) × Written (now (panel .exit)) ⌝ }
 {
     let mut p = port;
     let mut i = 0;
@@ -103,7 +102,7 @@ fn run(
                 replied: at,
             };
         }
-        let o = step(framebuffer, store, panel, p, ROWS, piece[i]);
+        let o = step(framebuffer, store, panel, p, height, piece[i]);
         at = send(replies, at, o.reply);
         let next = o.port;
         p = next;
@@ -122,21 +121,27 @@ fn run_on(
     framebuffer: &mut [u8],
     store: &mut [u8],
     record: &mut [u8],
+    height: u8,
     port: Port,
     piece: &[u8],
     replies: &mut [u8],
 ) -> Progress
-    requires { ⌜ Kept (world (now framebuffer) (now store) (state port (panelOf (drop panelAt (now «record»))))) × Written (drop panelAt (now «record»)) × (length (now «record») ≡ recordSize) ⌝ }
-    ensures { λ r. ⌜ RanOn (now (framebuffer .entry)) (now (store .entry)) (now («record» .entry)) port (now (piece .entry)) (now (replies .entry)) (now (framebuffer .exit)) (now (store .exit)) (now («record» .exit)) (r .port) (now (replies .exit)) (r .answer) (r .consumed) (r .replied) ⌝ }
+    requires { ⌜ Kept (world (now framebuffer) (now store) (state height port (panelOf (drop panelAt (now «record»))))) × Written (drop panelAt (now «record»)) × (length (now «record») ≡ recordSize) × (height ≡ heightIn (now «record»)) × (encodeOf (state height port (panelOf (drop panelAt (now «record»)))) ≡ now «record») ⌝ }
+    ensures { λ r. ⌜ RanOn (now (framebuffer .entry)) (now (store .entry)) (now («record» .entry)) height port (now (piece .entry)) (now (replies .entry)) (now (framebuffer .exit)) (now (store .exit)) (now («record» .exit)) (r .port) (now (replies .exit)) (r .answer) (r .consumed) (r .replied) ⌝ }
 {
     let ran = run(
         framebuffer,
         store,
         &mut record[PANEL..RECORD],
+        height,
         port,
         piece,
         replies,
     );
+    // What obeys no byte leaves the record as it is.
+    if ran.consumed == 0 {
+        return ran;
+    }
     let next = ran.port;
     encode_port(next, record);
     ran
@@ -189,21 +194,19 @@ fn empty_queue(queue: &mut [u8])
     queue[LOST_HIGH] = 0;
 }
 
-// A white framebuffer, the start's state, an empty queue; the store stays.
+// A white framebuffer of so many rows, the start's state, an empty queue; the store stays.
 #[no_mangle]
 pub extern "C" fn display_start(
+    height: u32,
     framebuffer: &mut [u8],
     store: &mut [u8],
     state: &mut [u8],
     queue: &mut [u8],
 ) -> u32
-    ensures { λ r. ⌜ started (memory (now (framebuffer .exit)) (now (store .exit)) (now (state .exit))) (now (queue .exit)) r ≡ startOf (memory (now (framebuffer .entry)) (now (store .entry)) (now (state .entry))) (now (queue .entry)) ⌝ }
+    ensures { λ r. ⌜ started (memory (now (framebuffer .exit)) (now (store .exit)) (now (state .exit))) (now (queue .exit)) r ≡ startOf height (memory (now (framebuffer .entry)) (now (store .entry)) (now (state .entry))) (now (queue .entry)) ⌝ }
 {
-    if framebuffer.len() != LENGTH {
-        return BAD_FRAMEBUFFER;
-    }
-    if !store_fits(store) {
-        return BAD_STORE;
+    if !is_height(height) {
+        return BAD_RECORD;
     }
     if state.len() != RECORD {
         return BAD_RECORD;
@@ -211,11 +214,18 @@ pub extern "C" fn display_start(
     if queue.len() != queue::RECORD {
         return BAD_RECORD;
     }
+    let chosen = height as u8;
+    if framebuffer.len() != length_for(chosen) {
+        return BAD_FRAMEBUFFER;
+    }
+    if !store_fits(store) {
+        return BAD_STORE;
+    }
     if !is_valid(store) {
         return BAD_DIRECTORY;
     }
     scroll::clear(framebuffer);
-    let s = start_state(ROWS);
+    let s = start_state(chosen);
     record::encode(s, state);
     empty_queue(queue);
     DONE
@@ -236,13 +246,17 @@ pub extern "C" fn display_feed(
 {
     *consumed = 0;
     *replied = 0;
-    if framebuffer.len() != LENGTH {
+    if !record::is_recognised(state) {
+        return BAD_RECORD;
+    }
+    let height = record::height_in(state);
+    if framebuffer.len() != length_for(height) {
         return BAD_FRAMEBUFFER;
     }
     if !store_fits(store) {
         return BAD_STORE;
     }
-    if !record::is_record(state, ROWS) {
+    if !record::is_record(state) {
         return BAD_RECORD;
     }
     if !is_valid(store) {
@@ -254,7 +268,7 @@ pub extern "C" fn display_feed(
     if is_blocked(store, phase) {
         return BAD_DIRECTORY;
     }
-    let ran = run_on(framebuffer, store, state, port, piece, replies);
+    let ran = run_on(framebuffer, store, state, height, port, piece, replies);
     *consumed = ran.consumed;
     *replied = ran.replied;
     ran.answer
@@ -266,7 +280,7 @@ pub extern "C" fn display_arrive(state: &[u8], queue: &mut [u8], byte: u8, signa
     ensures { λ r. ⌜ served r 0 (now (signal .exit)) (now (queue .exit)) ≡ arriveCall (now (state .entry)) (now (queue .entry)) byte ⌝ }
 {
     *signal = 0;
-    if !record::is_record(state, ROWS) {
+    if !record::is_record(state) {
         return BAD_RECORD;
     }
     let flow = record::flow_in(state);
@@ -287,7 +301,7 @@ pub extern "C" fn display_take(
 {
     *byte = 0;
     *signal = 0;
-    if !record::is_record(state, ROWS) {
+    if !record::is_record(state) {
         return BAD_RECORD;
     }
     let flow = record::flow_in(state);

@@ -4,7 +4,7 @@ use bar_graph::write_bar;
 use bitmap::paint_inline;
 use bitmap::paint_packed;
 use canvas::Colour;
-use canvas::LENGTH;
+use canvas::LOW_LENGTH;
 use canvas::is_black;
 use canvas::plot;
 use line::draw_line;
@@ -41,7 +41,7 @@ fn show(framebuffer: &[u8], x1: u16, x2: u16, y1: u16, y2: u16) {
 }
 
 fn pixels() {
-    let mut framebuffer = [0u8; LENGTH];
+    let mut framebuffer = [0u8; LOW_LENGTH];
     plot(&mut framebuffer, 0, 0, Colour::BLACK);
     plot(&mut framebuffer, 3, 1, Colour::BLACK);
     plot(&mut framebuffer, 240, 0, Colour::BLACK);
@@ -50,7 +50,7 @@ fn pixels() {
 }
 
 fn colours() {
-    let mut framebuffer = [0u8; LENGTH];
+    let mut framebuffer = [0u8; LOW_LENGTH];
     fill_rectangle(&mut framebuffer, 0, 0, 5, 0, Colour::BLACK);
     plot(&mut framebuffer, 1, 0, Colour::from_byte(0));
     plot(&mut framebuffer, 2, 0, Colour::from_byte(1));
@@ -61,7 +61,7 @@ fn colours() {
 }
 
 fn solids() {
-    let mut framebuffer = [0u8; LENGTH];
+    let mut framebuffer = [0u8; LOW_LENGTH];
     fill_rectangle(&mut framebuffer, 1, 1, 3, 2, Colour::BLACK);
     fill_rectangle(&mut framebuffer, 2, 1, 2, 1, Colour::WHITE);
     io::write_all(1, b"solid 1 1 3 2, then white 2 1 2 1\n");
@@ -72,7 +72,7 @@ fn solids() {
 }
 
 fn frames() {
-    let mut framebuffer = [0u8; LENGTH];
+    let mut framebuffer = [0u8; LOW_LENGTH];
     draw_frame(&mut framebuffer, 1, 0, 5, 3, Colour::BLACK);
     io::write_all(1, b"frame 1 0 5 3\n");
     show(&framebuffer, 0, 7, 0, 5);
@@ -82,7 +82,7 @@ fn frames() {
 }
 
 fn lines() {
-    let mut framebuffer = [0u8; LENGTH];
+    let mut framebuffer = [0u8; LOW_LENGTH];
     draw_line(&mut framebuffer, 0, 0, 2, 1, Colour::BLACK);
     io::write_all(1, b"line 0 0 2 1\n");
     show(&framebuffer, 0, 3, 0, 2);
@@ -114,7 +114,7 @@ fn bar(kind: u8, x1: u8, y1: u8, x2: u8, y2: u8) -> Bar {
 }
 
 fn vertical_bars() {
-    let mut framebuffer = [0u8; LENGTH];
+    let mut framebuffer = [0u8; LOW_LENGTH];
     let up = write_bar(&mut framebuffer, bar(bar_graph::FROM_BOTTOM, 1, 0, 3, 4), 2);
     io::write_all(1, b"bar from the bottom, 1 0 3 4, value 2\n");
     show(&framebuffer, 0, 5, 0, 5);
@@ -135,7 +135,7 @@ fn vertical_bars() {
 }
 
 fn horizontal_bars() {
-    let mut framebuffer = [0u8; LENGTH];
+    let mut framebuffer = [0u8; LOW_LENGTH];
     let right = write_bar(&mut framebuffer, bar(bar_graph::FROM_LEFT, 0, 0, 9, 1), 3);
     io::write_all(1, b"bar from the left, 0 0 9 1, value 3\n");
     show(&framebuffer, 0, 10, 0, 2);
@@ -167,7 +167,7 @@ fn pattern(framebuffer: &mut [u8]) {
 }
 
 fn strips() {
-    let mut framebuffer = [0u8; LENGTH];
+    let mut framebuffer = [0u8; LOW_LENGTH];
     pattern(&mut framebuffer);
     io::write_all(1, b"a row\n");
     show(&framebuffer, 0, 8, 0, 1);
@@ -181,7 +181,7 @@ fn strips() {
 }
 
 fn packed() {
-    let mut framebuffer = [0u8; LENGTH];
+    let mut framebuffer = [0u8; LOW_LENGTH];
     let t = [0xe9, 0x24];
     paint_packed(&mut framebuffer, 1, 1, 3, 5, &t);
     io::write_all(1, b"glyph E9 24, 3 by 5, at 1 1\n");
@@ -201,7 +201,7 @@ fn packed() {
 }
 
 fn in_line() {
-    let mut framebuffer = [0u8; LENGTH];
+    let mut framebuffer = [0u8; LOW_LENGTH];
     paint_inline(&mut framebuffer, 1, 0, 5, 3, 0, 0xff);
     paint_inline(&mut framebuffer, 1, 0, 5, 3, 1, 0x8f);
     paint_inline(&mut framebuffer, 1, 0, 5, 3, 2, 0x8f);
@@ -218,7 +218,7 @@ fn in_line() {
 }
 
 fn scrolls() {
-    let mut framebuffer = [0u8; LENGTH];
+    let mut framebuffer = [0u8; LOW_LENGTH];
     draw_line(&mut framebuffer, 0, 0, 2, 2, Colour::BLACK);
     plot(&mut framebuffer, 3, 63, Colour::BLACK);
     scroll_up(&mut framebuffer, 1);

@@ -8,7 +8,7 @@ use Prim.Native.Nat.{ℕ, _%_, _<_, _≤_}
 use lib.Dec.{leb, ltb}
 use lib.ListN.{set}
 use borrow.Author.Tests.{lt-ltb, le-ltb, le-leb, lt-leb}
-use Rattle.pixels.specs.Framebuffer.{width, height}
+use Rattle.pixels.specs.Framebuffer.{width}
 use Rattle.bar_graph.specs.declared.Bar.{Bar}
 use Rattle.bar_graph.specs.Bars.{writeOf, writtenBar}
 use Rattle.strip_chart.specs.Strips.{shiftedStrip}
@@ -44,75 +44,75 @@ apart-rows x1 y1 x2 y2 a = rw (lt-ltb x1 x2 a)
 
 -- ---- set up
 
-module _ (g s : List ℕ) (pt : Port) (q : Panel) (h n i k x1 y1 x2 y2 : ℕ) (tall : height g ≡ h) (number : i ≡ n) where
-  pub bar-19 : 16 ≤ i → setUpBar (world g s (state pt q)) n k x1 y1 x2 y2 ≡ refused 19 []
+module _ (g s : List ℕ) (pt : Port) (q : Panel) (h n i k x1 y1 x2 y2 : ℕ) (number : i ≡ n) where
+  pub bar-19 : 16 ≤ i → setUpBar (world g s (state h pt q)) n k x1 y1 x2 y2 ≡ refused 19 []
   unfolding setUpBar
   bar-19 a = rw (le-leb 16 n (omega arith))
 
-  pub bar-20 : i < 16 → 4 ≤ k → setUpBar (world g s (state pt q)) n k x1 y1 x2 y2 ≡ refused 20 []
+  pub bar-20 : i < 16 → 4 ≤ k → setUpBar (world g s (state h pt q)) n k x1 y1 x2 y2 ≡ refused 20 []
   unfolding setUpBar
   bar-20 a b = rw (lt-leb 16 n (omega arith), le-leb 4 k b)
 
-  pub bar-17 : (t : Bool) → i < 16 → k < 4 → t ≡ inBoundsOf h x1 y1 x2 y2 → not t ≡ true → setUpBar (world g s (state pt q)) n k x1 y1 x2 y2 ≡ refused 17 []
+  pub bar-17 : (t : Bool) → i < 16 → k < 4 → t ≡ inBoundsOf h x1 y1 x2 y2 → not t ≡ true → setUpBar (world g s (state h pt q)) n k x1 y1 x2 y2 ≡ refused 17 []
   unfolding setUpBar
-  bar-17 t a b d e = rw (lt-leb 16 n (omega arith), lt-leb 4 k b, tall, ← d, e)
+  bar-17 t a b d e = rw (lt-leb 16 n (omega arith), lt-leb 4 k b, ← d, e)
 
   pub bar-18 : (t u : Bool) → i < 16 → k < 4 → t ≡ inBoundsOf h x1 y1 x2 y2 → not t ≡ false → u ≡ apart x1 y1 x2 y2 → not u ≡ true
-      → setUpBar (world g s (state pt q)) n k x1 y1 x2 y2 ≡ refused 18 []
+      → setUpBar (world g s (state h pt q)) n k x1 y1 x2 y2 ≡ refused 18 []
   unfolding setUpBar
-  bar-18 t u a b d e f o = rw (lt-leb 16 n (omega arith), lt-leb 4 k b, tall, ← d, e, ← f, o)
+  bar-18 t u a b d e f o = rw (lt-leb 16 n (omega arith), lt-leb 4 k b, ← d, e, ← f, o)
 
   pub bar-done : (t u : Bool) → i < 16 → k < 4 → t ≡ inBoundsOf h x1 y1 x2 y2 → not t ≡ false → u ≡ apart x1 y1 x2 y2 → not u ≡ false
-      → setUpBar (world g s (state pt q)) n k x1 y1 x2 y2 ≡ quietly (world g s (state pt (withBars q (set (q .bars) n (barSlot true (barOf k x1 y1 x2 y2 0))))))
+      → setUpBar (world g s (state h pt q)) n k x1 y1 x2 y2 ≡ quietly (world g s (state h pt (withBars q (set (q .bars) n (barSlot true (barOf k x1 y1 x2 y2 0))))))
   unfolding setUpBar
-  bar-done t u a b d e f o = rw (lt-leb 16 n (omega arith), lt-leb 4 k b, tall, ← d, e, ← f, o)
+  bar-done t u a b d e f o = rw (lt-leb 16 n (omega arith), lt-leb 4 k b, ← d, e, ← f, o)
 
-  pub strip-19 : 8 ≤ i → setUpStrip (world g s (state pt q)) n x1 y1 x2 y2 ≡ refused 19 []
+  pub strip-19 : 8 ≤ i → setUpStrip (world g s (state h pt q)) n x1 y1 x2 y2 ≡ refused 19 []
   unfolding setUpStrip
   strip-19 a = rw (le-leb 8 n (omega arith))
 
-  pub strip-17 : (t : Bool) → i < 8 → t ≡ inBoundsOf h x1 y1 x2 y2 → not t ≡ true → setUpStrip (world g s (state pt q)) n x1 y1 x2 y2 ≡ refused 17 []
+  pub strip-17 : (t : Bool) → i < 8 → t ≡ inBoundsOf h x1 y1 x2 y2 → not t ≡ true → setUpStrip (world g s (state h pt q)) n x1 y1 x2 y2 ≡ refused 17 []
   unfolding setUpStrip
-  strip-17 t a d e = rw (lt-leb 8 n (omega arith), tall, ← d, e)
+  strip-17 t a d e = rw (lt-leb 8 n (omega arith), ← d, e)
 
   pub strip-18 : (t u : Bool) → i < 8 → t ≡ inBoundsOf h x1 y1 x2 y2 → not t ≡ false → u ≡ apart x1 y1 x2 y2 → not u ≡ true
-      → setUpStrip (world g s (state pt q)) n x1 y1 x2 y2 ≡ refused 18 []
+      → setUpStrip (world g s (state h pt q)) n x1 y1 x2 y2 ≡ refused 18 []
   unfolding setUpStrip
-  strip-18 t u a d e f o = rw (lt-leb 8 n (omega arith), tall, ← d, e, ← f, o)
+  strip-18 t u a d e f o = rw (lt-leb 8 n (omega arith), ← d, e, ← f, o)
 
   pub strip-done : (t u : Bool) → i < 8 → t ≡ inBoundsOf h x1 y1 x2 y2 → not t ≡ false → u ≡ apart x1 y1 x2 y2 → not u ≡ false
-      → setUpStrip (world g s (state pt q)) n x1 y1 x2 y2 ≡ quietly (world g s (state pt (withStrips q (set (q .strips) n (strip true x1 y1 x2 y2)))))
+      → setUpStrip (world g s (state h pt q)) n x1 y1 x2 y2 ≡ quietly (world g s (state h pt (withStrips q (set (q .strips) n (strip true x1 y1 x2 y2)))))
   unfolding setUpStrip
-  strip-done t u a d e f o = rw (lt-leb 8 n (omega arith), tall, ← d, e, ← f, o)
+  strip-done t u a d e f o = rw (lt-leb 8 n (omega arith), ← d, e, ← f, o)
 
 -- ---- writes and shifts
 
-module _ (g s : List ℕ) (pt : Port) (q : Panel) (n i v : ℕ) (number : i ≡ n) where
-  pub write-19 : 16 ≤ i → writeBar (world g s (state pt q)) n v ≡ refused 19 []
+module _ (h : ℕ) (g s : List ℕ) (pt : Port) (q : Panel) (n i v : ℕ) (number : i ≡ n) where
+  pub write-19 : 16 ≤ i → writeBar (world g s (state h pt q)) n v ≡ refused 19 []
   unfolding writeBar
   write-19 a = rw (le-leb 16 n (omega arith))
 
   module _ (b : BarSlot) (there : b ≡ barAt q n) (few : i < 16) where
-    pub write-21 : not (b .on) ≡ true → writeBar (world g s (state pt q)) n v ≡ refused 21 []
+    pub write-21 : not (b .on) ≡ true → writeBar (world g s (state h pt q)) n v ≡ refused 21 []
     unfolding writeBar
     write-21 e = rw (lt-leb 16 n (omega arith), ← there, e)
 
     pub write-done : (g' : List ℕ) (w : Bar) → not (b .on) ≡ false → w ≡ writtenBar (b .bar) v → g' ≡ writeOf (b .bar) v g
-        → writeBar (world g s (state pt q)) n v ≡ quietly (world g' s (state pt (withBars q (set (q .bars) n (barSlot true w)))))
+        → writeBar (world g s (state h pt q)) n v ≡ quietly (world g' s (state h pt (withBars q (set (q .bars) n (barSlot true w)))))
     unfolding writeBar
     write-done g' w e d f = rw (lt-leb 16 n (omega arith), ← there, e, d, f)
 
-module _ (g s : List ℕ) (pt : Port) (q : Panel) (b i : ℕ) (number : i ≡ b % 128) where
-  pub shift-19 : 8 ≤ i → shiftStrip (world g s (state pt q)) b ≡ refused 19 []
+module _ (h : ℕ) (g s : List ℕ) (pt : Port) (q : Panel) (b i : ℕ) (number : i ≡ b % 128) where
+  pub shift-19 : 8 ≤ i → shiftStrip (world g s (state h pt q)) b ≡ refused 19 []
   unfolding shiftStrip
   shift-19 a = rw (le-leb 8 (b % 128) (omega (arith, number)))
 
   module _ (t : Strip) (there : t ≡ stripAt q (b % 128)) (few : i < 8) where
-    pub shift-21 : not (t .on) ≡ true → shiftStrip (world g s (state pt q)) b ≡ refused 21 []
+    pub shift-21 : not (t .on) ≡ true → shiftStrip (world g s (state h pt q)) b ≡ refused 21 []
     unfolding shiftStrip
     shift-21 e = rw (lt-leb 8 (b % 128) (omega (arith, number)), ← there, e)
 
     pub shift-done : (g' : List ℕ) → not (t .on) ≡ false → g' ≡ shiftedStrip (leb 128 b) (t .x1) (t .y1) (t .x2) (t .y2) g
-        → shiftStrip (world g s (state pt q)) b ≡ quietly (world g' s (state pt q))
+        → shiftStrip (world g s (state h pt q)) b ≡ quietly (world g' s (state h pt q))
     unfolding shiftStrip
     shift-done g' e f = rw (lt-leb 8 (b % 128) (omega (arith, number)), ← there, e, f)

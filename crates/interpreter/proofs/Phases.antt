@@ -30,7 +30,7 @@ use Rattle.rules.specs.Files.{uploadData}
 use Rattle.rules.specs.Step.{obey, outside, code, argument, alone, byPhase, outcome, after, refuse}
 use Rattle.outcome.specs.declared.Outcome.{Outcome}
 use Rattle.outcome.specs.Outcome.{inPhaseOf, sentBy}
-use Rattle.outcome.specs.Contract.{Loan, found, left, Told, held, heldBy, Came, Obeys}
+use Rattle.outcome.specs.Contract.{Loan, found, left, Told, heightBy, held, heldBy, Came, Obeys}
 use Rattle.storage.proofs.Laws.{stored-not, stored-yes}
 
 -- ---- outside a command
@@ -52,15 +52,16 @@ after-outside w (refused n l) = refl
 
 -- a command obeyed there is what the byte comes to
 obeyed-there : {t : Told} {G S P : Loan} {r : Outcome} (of : World → Ruled) (c : Command) (a : List ℕ) (pt out : Port) → out ≡ inPhaseOf pt Idle
-    → ((g s : List ℕ) (q : Panel) → of (world g s (state pt q)) ≡ obey c a (outside (world g s (state pt q)))) → Obeys t (obey c a) out G S P r → Obeys t of pt G S P r
+    → ((h : ℕ) (g s : List ℕ) (q : Panel) → of (world g s (state h pt q)) ≡ obey c a (outside (world g s (state h pt q)))) → Obeys t (obey c a) out G S P r → Obeys t of pt G S P r
 obeyed-there {t = t} {G = G} {S = S} {P = P} {r = r} of c a pt out d e o =
     record {
-      came = λ g s p h.
-          let w = world (found G g) (found S s) (state pt (panelOf (found P p))) in
-          let q : Came (held (found G g) (found S s) (found P p) (inPhaseOf pt Idle)) (obey c a (outside w)) (held (left G g) (left S s) (left P p) (r .port)) (sentBy (r .reply)) =
-          subst (λ (x : Port). Came (held (found G g) (found S s) (found P p) x) (obey c a (world (found G g) (found S s) (state x (panelOf (found P p)))))
-          (held (left G g) (left S s) (left P p) (r .port)) (sentBy (r .reply))) d (o .came g s p h) in
-          rw (e (found G g) (found S s) (panelOf (found P p)))
+      came = λ h g s p.
+          let k = heightBy t h in
+          let w = world (found G g) (found S s) (state k pt (panelOf (found P p))) in
+          let q : Came (held k (found G g) (found S s) (found P p) (inPhaseOf pt Idle)) (obey c a (outside w)) (held k (left G g) (left S s) (left P p) (r .port)) (sentBy (r .reply)) =
+          subst (λ (x : Port). Came (held k (found G g) (found S s) (found P p) x) (obey c a (world (found G g) (found S s) (state k x (panelOf (found P p)))))
+          (held k (left G g) (left S s) (left P p) (r .port)) (sentBy (r .reply))) d (o .came h g s p) in
+          rw (e k (found G g) (found S s) (panelOf (found P p)))
           (record { next = q .next ∙ ap (heldBy (found P p)) (after-outside w (obey c a (outside w))); sends = q .sends });
     }
 
@@ -112,7 +113,7 @@ module _ (b : ℕ) (c : Command) (n : ℕ) (named : c ≡ commandOf b) (counted 
   pub code-obeyed : {t : Told} {G S P : Loan} {r : Outcome} {pt : Port} (out : Port) → n ≡ 0 → out ≡ inPhaseOf pt Idle → Obeys t (obey c noArgs) out G S P r
       → Obeys t (λ w. code w b) pt G S P r
   code-obeyed {pt = pt} out e d o =
-      obeyed-there (λ w. code w b) c noArgs pt out d (λ g s q. obeyed (world g s (state pt q)) e ∙ sym (obey-nothing c (outside (world g s (state pt q))))) o
+      obeyed-there (λ w. code w b) c noArgs pt out d (λ h g s q. obeyed (world g s (state h pt q)) e ∙ sym (obey-nothing c (outside (world g s (state h pt q))))) o
 
 -- ---- arguments
 
@@ -146,18 +147,18 @@ bitmap-is w k i b t e h =
 
 module _ (pt : Port) (k i b : ℕ) (t : Bool) (c : Command) (n : ℕ) (a : List ℕ) (tested : t ≡ (eqb k 98 && eqb i 0)) (other : t ≡ false)
     (named : c ≡ commandOf k) (counted : n ≡ argumentsOf c) (kept : a ≡ set (pt .line .args) i b) where
-  pub argument-kept : (g s : List ℕ) (q : Panel) → i + 1 < n
-      → argument (world g s (state pt q)) k i b ≡ quietly (world g s (state (withPhase pt (Gathering k (i + 1)) a) q))
+  pub argument-kept : (r : ℕ) (g s : List ℕ) (q : Panel) → i + 1 < n
+      → argument (world g s (state r pt q)) k i b ≡ quietly (world g s (state r (withPhase pt (Gathering k (i + 1)) a) q))
   unfolding argument
-  argument-kept g s q h = rw (← tested, other, ← named, ← counted, lt-ltb (i + 1) n h, kept)
+  argument-kept r g s q h = rw (← tested, other, ← named, ← counted, lt-ltb (i + 1) n h, kept)
 
-  last : (g s : List ℕ) (q : Panel) → n ≤ i + 1 → argument (world g s (state pt q)) k i b ≡ obey c a (outside (world g s (state pt q)))
+  last : (r : ℕ) (g s : List ℕ) (q : Panel) → n ≤ i + 1 → argument (world g s (state r pt q)) k i b ≡ obey c a (outside (world g s (state r pt q)))
   unfolding argument
-  last g s q h = rw (← tested, other, ← named, ← counted, le-ltb (i + 1) n h, kept)
+  last r g s q h = rw (← tested, other, ← named, ← counted, le-ltb (i + 1) n h, kept)
 
   pub argument-obeyed : {h : Told} {G S P : Loan} {r : Outcome} (out : Port) → n ≤ i + 1 → out ≡ inPhaseOf pt Idle → Obeys h (obey c a) out G S P r
       → Obeys h (λ w. argument w k i b) pt G S P r
-  argument-obeyed out l d o = obeyed-there (λ w. argument w k i b) c a pt out d (λ g s q. last g s q l) o
+  argument-obeyed out l d o = obeyed-there (λ w. argument w k i b) c a pt out d (λ r g s q. last r g s q l) o
 
 -- ---- the phase
 

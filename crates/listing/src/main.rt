@@ -1,6 +1,9 @@
 // Obeys the bytes of the standard input on a fresh display, and lists what they leave: black runs of each row, refusals, replies.
-use canvas::HEIGHT;
-use canvas::LENGTH;
+// The display has 128 rows where the first argument is 128, and else 64.
+use canvas::LOW_HEIGHT;
+use canvas::LOW_LENGTH;
+use canvas::TALL_HEIGHT;
+use canvas::TALL_LENGTH;
 use canvas::WIDTH;
 use canvas::is_black;
 use display::STORE_MOST;
@@ -67,10 +70,13 @@ fn show_row(framebuffer: &[u8], y: u16) {
     io::write_all(1, b"\n");
 }
 
-fn show_framebuffer(framebuffer: &[u8]) {
-    io::write_all(1, b"glass 240 64\n");
+fn show_framebuffer(framebuffer: &[u8], height: u8) {
+    let end = height as u16;
+    io::write_all(1, b"glass 240 ");
+    io::print_decimal(1, end as u64);
+    io::write_all(1, b"\n");
     let mut y = 0;
-    while y < HEIGHT {
+    while y < end {
         show_row(framebuffer, y);
         y += 1;
     }
@@ -196,15 +202,45 @@ fn obey_all(framebuffer: &mut [u8], store: &mut [u8], state: &mut [u8], shown: &
     count
 }
 
-fn main() {
-    let mut framebuffer = [0u8; LENGTH];
+// Whether the first argument is 128, and not one byte more.
+fn is_tall() -> bool {
+    let mut word = [0u8; 3];
+    if os::arg(1, &mut word) != 3 {
+        return false;
+    }
+    if word[0] != b'1' {
+        return false;
+    }
+    if word[1] != b'2' {
+        return false;
+    }
+    word[2] == b'8'
+}
+
+fn list(framebuffer: &mut [u8], height: u8) {
     let mut store = [0u8; STORE_MOST];
     let mut state = [0u8; record::RECORD];
     let mut queue = [0u8; queue::RECORD];
-    display_start(&mut framebuffer, &mut store, &mut state, &mut queue);
+    display_start(
+        height as u32,
+        framebuffer,
+        &mut store,
+        &mut state,
+        &mut queue,
+    );
     let mut shown = [0u8; SHOWN];
-    let count = obey_all(&mut framebuffer, &mut store, &mut state, &mut shown);
-    show_framebuffer(&framebuffer);
+    let count = obey_all(framebuffer, &mut store, &mut state, &mut shown);
+    show_framebuffer(framebuffer, height);
     show_refusals(&state);
     show_replies(&shown[..count]);
+}
+
+fn main() {
+    if is_tall() {
+        let mut framebuffer = [0u8; TALL_LENGTH];
+        list(&mut framebuffer, TALL_HEIGHT);
+    } else {
+        let mut framebuffer = [0u8; LOW_LENGTH];
+        list(&mut framebuffer, LOW_HEIGHT);
+    }
 }

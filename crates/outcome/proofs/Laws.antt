@@ -16,7 +16,7 @@ use Rattle.rules.specs.Step.{refusals, after, sent, refuse}
 use Rattle.outcome.specs.declared.Outcome.{Outcome}
 use Rattle.outcome.specs.declared.Reply.{Reply}
 use Rattle.outcome.specs.Outcome.{sentBy, inPhaseOf, refusedPort, refusedOf, doneOf, sendingOf, oneByte, twoBytes}
-use Rattle.outcome.specs.Contract.{Loan, found, left, Told, True, Held, held, heldBy, Came, Obeys}
+use Rattle.outcome.specs.Contract.{Loan, found, left, Told, heightBy, Held, held, heldBy, Came, Obeys}
 
 pub refuse-is : (p t : Port) (n c : ℕ) → t ≡ inPhaseOf p Idle → c ≡ (p .refusals .count + 1) % 65536 → withRefusals t (refusals c n) ≡ refusedPort p n
 unfolding refusedPort
@@ -27,7 +27,7 @@ refused-is p t o n e f = f ∙ ap doneOf e
 
 -- ---- one memory
 
-came-refused : (m n : Held) (o : Ruled) (k : ℕ) (l : List ℕ) → n ≡ held (m .framebuffer) (m .store) (m .panel-bytes) (refusedPort (m .port) k) → o ≡ refused k l → Came m o n l
+came-refused : (m n : Held) (o : Ruled) (k : ℕ) (l : List ℕ) → n ≡ held (m .height) (m .framebuffer) (m .store) (m .panel-bytes) (refusedPort (m .port) k) → o ≡ refused k l → Came m o n l
 unfolding refuse refusedPort after
 came-refused m n o k l e f =
     record {
@@ -47,77 +47,78 @@ stays P u p = u p ∙ sym (revised-same (found P p))
 
 module _ {t : Told} {rule : World → Ruled} {pt : Port} {G S P : Loan} {r : Outcome} where
   by-refused : (n : ℕ) (rp : Reply) → r ≡ sendingOf (refusedPort pt n) rp
-      → ((g s p : List ℕ) → held (left G g) (left S s) (left P p) pt ≡ held (found G g) (found S s) (found P p) pt)
-      → ((g s p : List ℕ) → True t (found G g) → rule (world (found G g) (found S s) (state pt (panelOf (found P p)))) ≡ refused n (sentBy rp)) → Obeys t rule pt G S P r
+      → ((h : ℕ) (g s p : List ℕ) → held h (left G g) (left S s) (left P p) pt ≡ held h (found G g) (found S s) (found P p) pt)
+      → ((h : ℕ) (g s p : List ℕ) → rule (world (found G g) (found S s) (state (heightBy t h) pt (panelOf (found P p)))) ≡ refused n (sentBy rp)) → Obeys t rule pt G S P r
   by-refused n rp f u e =
       record {
-        came = λ g s p h.
-            rw f (came-refused (held (found G g) (found S s) (found P p) pt) _ _ n _
-            (ap (λ (m : Held). held (m .framebuffer) (m .store) (m .panel-bytes) (refusedPort pt n)) (u g s p)) (e g s p h));
+        came = λ h g s p.
+            rw f (came-refused (held (heightBy t h) (found G g) (found S s) (found P p) pt) _ _ n _
+            (ap (λ (m : Held). held (m .height) (m .framebuffer) (m .store) (m .panel-bytes) (refusedPort pt n)) (u (heightBy t h) g s p)) (e h g s p));
       }
 
   by-done : (pt' : Port) (rp : Reply) (q : List ℕ → Panel) → r ≡ sendingOf pt' rp → ((p : List ℕ) → left P p ≡ revised (found P p) (q p))
-      → ((g s p : List ℕ) → True t (found G g)
-      → rule (world (found G g) (found S s) (state pt (panelOf (found P p)))) ≡ done (world (left G g) (left S s) (state pt' (q p))) (sentBy rp))
+      → ((h : ℕ) (g s p : List ℕ)
+      → rule (world (found G g) (found S s) (state (heightBy t h) pt (panelOf (found P p)))) ≡ done (world (left G g) (left S s) (state (heightBy t h) pt' (q p))) (sentBy rp))
       → Obeys t rule pt G S P r
   by-done pt' rp q f u e =
       record {
-        came = λ g s p h.
-            rw f (came-done (held (found G g) (found S s) (found P p) pt) _ _ (world (left G g) (left S s) (state pt' (q p))) _
-            (ap (λ (l : List ℕ). held (left G g) (left S s) l pt') (u p)) (e g s p h));
+        came = λ h g s p.
+            rw f (came-done (held (heightBy t h) (found G g) (found S s) (found P p) pt) _ _ (world (left G g) (left S s) (state (heightBy t h) pt' (q p))) _
+            (ap (λ (l : List ℕ). held (heightBy t h) (left G g) (left S s) l pt') (u p)) (e h g s p));
       }
 
   pub obeys-refused : (n : ℕ) → r ≡ refusedOf pt n
-      → ((g s p : List ℕ) → held (left G g) (left S s) (left P p) pt ≡ held (found G g) (found S s) (found P p) pt)
-      → ((g s p : List ℕ) → True t (found G g) → rule (world (found G g) (found S s) (state pt (panelOf (found P p)))) ≡ refused n []) → Obeys t rule pt G S P r
+      → ((h : ℕ) (g s p : List ℕ) → held h (left G g) (left S s) (left P p) pt ≡ held h (found G g) (found S s) (found P p) pt)
+      → ((h : ℕ) (g s p : List ℕ) → rule (world (found G g) (found S s) (state (heightBy t h) pt (panelOf (found P p)))) ≡ refused n []) → Obeys t rule pt G S P r
   unfolding sentBy
   obeys-refused n f u e = by-refused n _ f u e
 
   -- with one byte sent
   pub obeys-telling : (n b : ℕ) → r ≡ sendingOf (refusedPort pt n) (oneByte b)
-      → ((g s p : List ℕ) → held (left G g) (left S s) (left P p) pt ≡ held (found G g) (found S s) (found P p) pt)
-      → ((g s p : List ℕ) → True t (found G g) → rule (world (found G g) (found S s) (state pt (panelOf (found P p)))) ≡ refused n (b ∷ []))
+      → ((h : ℕ) (g s p : List ℕ) → held h (left G g) (left S s) (left P p) pt ≡ held h (found G g) (found S s) (found P p) pt)
+      → ((h : ℕ) (g s p : List ℕ) → rule (world (found G g) (found S s) (state (heightBy t h) pt (panelOf (found P p)))) ≡ refused n (b ∷ []))
       → Obeys t rule pt G S P r
   unfolding sentBy
   obeys-telling n b f u e = by-refused n _ f u e
 
   pub obeys-done : (pt' : Port) → r ≡ doneOf pt' → ((p : List ℕ) → left P p ≡ found P p)
-      → ((g s p : List ℕ) → True t (found G g)
-      → rule (world (found G g) (found S s) (state pt (panelOf (found P p)))) ≡ quietly (world (left G g) (left S s) (state pt' (panelOf (found P p)))))
+      → ((h : ℕ) (g s p : List ℕ)
+      → rule (world (found G g) (found S s) (state (heightBy t h) pt (panelOf (found P p)))) ≡ quietly (world (left G g) (left S s) (state (heightBy t h) pt' (panelOf (found P p)))))
       → Obeys t rule pt G S P r
   unfolding sentBy
   obeys-done pt' f u e = by-done pt' _ (λ p. panelOf (found P p)) f (stays P u) e
 
   pub obeys-one : (pt' : Port) (b : ℕ) → r ≡ sendingOf pt' (oneByte b) → ((p : List ℕ) → left P p ≡ found P p)
-      → ((g s p : List ℕ) → True t (found G g)
-      → rule (world (found G g) (found S s) (state pt (panelOf (found P p)))) ≡ done (world (left G g) (left S s) (state pt' (panelOf (found P p)))) (b ∷ []))
+      → ((h : ℕ) (g s p : List ℕ)
+      → rule (world (found G g) (found S s) (state (heightBy t h) pt (panelOf (found P p)))) ≡ done (world (left G g) (left S s) (state (heightBy t h) pt' (panelOf (found P p)))) (b ∷ []))
       → Obeys t rule pt G S P r
   unfolding sentBy
   obeys-one pt' b f u e = by-done pt' _ (λ p. panelOf (found P p)) f (stays P u) e
 
   pub obeys-two : (pt' : Port) (a b : ℕ) → r ≡ sendingOf pt' (twoBytes a b) → ((p : List ℕ) → left P p ≡ found P p)
-      → ((g s p : List ℕ) → True t (found G g)
-      → rule (world (found G g) (found S s) (state pt (panelOf (found P p)))) ≡ done (world (left G g) (left S s) (state pt' (panelOf (found P p)))) (a ∷ b ∷ []))
+      → ((h : ℕ) (g s p : List ℕ)
+      → rule (world (found G g) (found S s) (state (heightBy t h) pt (panelOf (found P p)))) ≡ done (world (left G g) (left S s) (state (heightBy t h) pt' (panelOf (found P p)))) (a ∷ b ∷ []))
       → Obeys t rule pt G S P r
   unfolding sentBy
   obeys-two pt' a b f u e = by-done pt' _ (λ p. panelOf (found P p)) f (stays P u) e
 
   -- the panel becomes q
   pub obeys-set : (pt' : Port) (q : Panel) → r ≡ doneOf pt' → ((p : List ℕ) → left P p ≡ revised (found P p) q)
-      → ((g s p : List ℕ) → True t (found G g)
-      → rule (world (found G g) (found S s) (state pt (panelOf (found P p)))) ≡ quietly (world (left G g) (left S s) (state pt' q))) → Obeys t rule pt G S P r
+      → ((h : ℕ) (g s p : List ℕ)
+      → rule (world (found G g) (found S s) (state (heightBy t h) pt (panelOf (found P p)))) ≡ quietly (world (left G g) (left S s) (state (heightBy t h) pt' q))) → Obeys t rule pt G S P r
   unfolding sentBy
   obeys-set pt' q f u e = by-done pt' _ (λ p. q) f u e
 
   pub obeys-set-two : (pt' : Port) (q : Panel) (a b : ℕ) → r ≡ sendingOf pt' (twoBytes a b) → ((p : List ℕ) → left P p ≡ revised (found P p) q)
-      → ((g s p : List ℕ) → True t (found G g)
-      → rule (world (found G g) (found S s) (state pt (panelOf (found P p)))) ≡ done (world (left G g) (left S s) (state pt' q)) (a ∷ b ∷ [])) → Obeys t rule pt G S P r
+      → ((h : ℕ) (g s p : List ℕ)
+      → rule (world (found G g) (found S s) (state (heightBy t h) pt (panelOf (found P p)))) ≡ done (world (left G g) (left S s) (state (heightBy t h) pt' q)) (a ∷ b ∷ [])) → Obeys t rule pt G S P r
   unfolding sentBy
   obeys-set-two pt' q a b f u e = by-done pt' _ (λ p. q) f u e
 
 -- ---- from a function to one that is lent more, and to another rule that says the same
 
 pub record Moved : Type 0 where
+  pub height : ℕ
   pub from-framebuffer : List ℕ
   pub from-store : List ℕ
   pub from-panel : List ℕ
@@ -125,9 +126,10 @@ pub record Moved : Type 0 where
   pub to-store : List ℕ
   pub to-panel : List ℕ
 
-abbrev pub moved : Loan → Loan → Loan → List ℕ → List ℕ → List ℕ → Moved
-moved G S P g s p =
+abbrev pub moved : Told → Loan → Loan → Loan → ℕ → List ℕ → List ℕ → List ℕ → Moved
+moved t G S P h g s p =
     record {
+      height = heightBy t h;
       from-framebuffer = found G g;
       from-store = found S s;
       from-panel = found P p;
@@ -137,20 +139,19 @@ moved G S P g s p =
     }
 
 pub obeys-as : {t t' : Told} {of rule : World → Ruled} {pt : Port} {G S P G' S' P' : Loan} {r : Outcome} → Obeys t rule pt G S P r
-    → ((g : List ℕ) → True t' g → True t g)
-    → ((g s p : List ℕ) → moved G S P (found G' g) (found S' s) (found P' p) ≡ moved G' S' P' g s p)
-    → ((g s p : List ℕ) → True t' (found G' g)
-    → of (world (found G' g) (found S' s) (state pt (panelOf (found P' p)))) ≡ rule (world (found G' g) (found S' s) (state pt (panelOf (found P' p)))))
+    → ((h : ℕ) (g s p : List ℕ) → moved t G S P (heightBy t' h) (found G' g) (found S' s) (found P' p) ≡ moved t' G' S' P' h g s p)
+    → ((h : ℕ) (g s p : List ℕ)
+    → of (world (found G' g) (found S' s) (state (heightBy t' h) pt (panelOf (found P' p)))) ≡ rule (world (found G' g) (found S' s) (state (heightBy t' h) pt (panelOf (found P' p)))))
     → Obeys t' of pt G' S' P' r
-obeys-as {t = t} {rule = rule} {pt = pt} {G' = G'} {S' = S'} {P' = P'} {r = r} o k u e =
+obeys-as {t' = t'} {rule = rule} {pt = pt} {G' = G'} {S' = S'} {P' = P'} {r = r} o u e =
     record {
-      came = λ g s p h.
-          rw (e g s p h)
+      came = λ h g s p.
+          rw (e h g s p)
           (subst
-          (λ (m : Moved). True t (m .from-framebuffer)
-          → Came (held (m .from-framebuffer) (m .from-store) (m .from-panel) pt) (rule (world (m .from-framebuffer) (m .from-store) (state pt (panelOf (m .from-panel)))))
-          (held (m .to-framebuffer) (m .to-store) (m .to-panel) (r .port)) (sentBy (r .reply)))
-          (u g s p) (o .came (found G' g) (found S' s) (found P' p)) (k (found G' g) h));
+          (λ (m : Moved). Came (held (m .height) (m .from-framebuffer) (m .from-store) (m .from-panel) pt)
+          (rule (world (m .from-framebuffer) (m .from-store) (state (m .height) pt (panelOf (m .from-panel)))))
+          (held (m .height) (m .to-framebuffer) (m .to-store) (m .to-panel) (r .port)) (sentBy (r .reply)))
+          (u h g s p) (o .came (heightBy t' h) (found G' g) (found S' s) (found P' p)));
     }
 
 -- ---- an outcome made of a port that a call made

@@ -1,27 +1,19 @@
--- What fits: a pixel by its column and row, a rectangle by its far corner, for every height.
+-- What fits on h rows: a pixel by its column and row, a rectangle by its far corner.
 -- Assumes nothing.
 use mathlib.Core.Path.{_≡_}
 use mathlib.Core.Bool.{true}
-use mathlib.Core.List.{List}
-use Prim.Native.Nat.{ℕ, _%_, _*_, _<_}
+use Prim.Native.Nat.{ℕ, _*_, _<_}
 use native.Mathlib.Omega.{arith}
-use lib.ListN.{length}
-use Rattle.pixels.specs.Framebuffer.{On, stride, width, height}
+use Rattle.pixels.specs.Framebuffer.{On, stride, width}
 use Rattle.pixels.specs.Regions.{rectangle}
 use Rattle.pixels.proofs.Touch.{rectangle-true}
 
-pub pixel-fits : (g : List ℕ) (x y : ℕ) → x < width → y < height g → On (length g) x y
-unfolding height
-pixel-fits g x y h k = (h, omega arith)
+pub pixel-fits : (h x y : ℕ) → x < width → y < h → On (stride * h) x y
+pixel-fits h x y a b = (a, omega arith)
 
--- in whole rows nothing else does
-pub fits-pixel : (g : List ℕ) (x y : ℕ) → length g % stride ≡ 0 → On (length g) x y → (x < width) × (y < height g)
-unfolding height
-fits-pixel g x y w on = (on .0, omega arith)
+-- and nothing else does
+pub fits-pixel : (h x y : ℕ) → On (stride * h) x y → (x < width) × (y < h)
+fits-pixel h x y on = (on .0, omega (arith, on .1))
 
-pub rectangle-fits : (g : List ℕ) (x1 y1 x2 y2 x y : ℕ) → x2 < width → y2 < height g → rectangle x1 y1 x2 y2 x y ≡ true → On (length g) x y
-rectangle-fits g x1 y1 x2 y2 x y h k r = let t = rectangle-true x1 y1 x2 y2 x y r in pixel-fits g x y (omega arith) (omega arith)
-
-pub height-is : (g : List ℕ) (h : ℕ) → length g ≡ stride * h → height g ≡ h
-unfolding height
-height-is g h e = omega arith
+pub rectangle-fits : (h x1 y1 x2 y2 x y : ℕ) → x2 < width → y2 < h → rectangle x1 y1 x2 y2 x y ≡ true → On (stride * h) x y
+rectangle-fits h x1 y1 x2 y2 x y a b r = let t = rectangle-true x1 y1 x2 y2 x y r in pixel-fits h x y (omega arith) (omega arith)

@@ -1,5 +1,4 @@
 -- The framebuffer (the rules paper's glass): rows of 240 pixels, 30 bytes each, the top row first, the highest bit leftmost, 1 black.
--- Its height is a result, its length divided by 30.
 -- Assumes nothing.
 use mathlib.Core.Bool.{Bool, true, false, cond, _&&_}
 use mathlib.Core.List.{List, [], _∷_}
@@ -13,9 +12,6 @@ width = 240
 -- bytes in a row
 abbrev pub stride : ℕ
 stride = 30
-
-unfoldable pub height : List ℕ → ℕ
-height g = length g / stride
 
 -- a set of pixels, and what stands at each pixel (true is black): both by column and row
 abbrev pub Region : Type 0

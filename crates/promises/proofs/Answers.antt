@@ -99,6 +99,6 @@ answered w q (refusedArrive t j x s ∷ l) k h i =
 answered w q (refusedTake t j s ∷ l) k h i =
     let b = board (saved w) q in
     (ap (λ (y : Served). y .answer) (refused-take (lent t (encodeOf (w .state))) (lent j q) s (h .0 .0) (h .0 .1)), unmoved b l (left b (refusedTake t j s)) (take-unmoved b t j s (h .0)) (λ u. answered w q l k u i) (h .1))
-answered w q (refusedStart z j s ∷ l) k h i =
+answered w q (refusedStart n z j s ∷ l) k h i =
     let b = board (saved w) q in
-    (ap (λ (y : Started). y .answer) (refused-start (lentMemory z (saved w)) (lent j q) s (h .0 .0) (h .0 .1)), unmoved b l (left b (refusedStart z j s)) (start-unmoved b z j s (h .0)) (λ u. answered w q l k u i) (h .1))
+    (ap (λ (y : Started). y .answer) (refused-start n (lentMemory z (saved w)) (lent j q) s (h .0 .0) (h .0 .1)), unmoved b l (left b (refusedStart n z j s)) (start-unmoved b n z j s (h .0)) (λ u. answered w q l k u i) (h .1))

@@ -68,6 +68,7 @@ carried b l h a v =
       since-zero = λ n z. subst (λ (u : World). ShowsWhole (barAt (panel u) n .bar) (u .framebuffer)) (sym r) (zeroed w (allConsumed l) g i n z);
       count = rw (s .board-same, s .consumed-same) (v .count);
       last = rw (s .board-same, s .consumed-same) (v .last);
+      height = rw (s .board-same) (v .height);
       again = rw (s .board-same) (v .again);
       line-again = rw (s .board-same) (v .line-again);
     }
@@ -77,10 +78,10 @@ promised m q l b e h i =
     let a = subst (λ (n : Memory). MeetsAll (board n q) l → AnswersAll (board n q) l) (saved-loaded m e) (λ j. answered (loaded m) q l (checked-kept m b e) j i) in
     carried (board m q) l h (a h) (calls-served m q (callsOf l) b e i)
 
-pub promised-from-start : (m : Memory) (q : List ℕ) (s : Started) (l : List Made) → s ≡ startOf m q → Bytes (m .store) → startChecked m q ≡ 0
+pub promised-from-start : (n : ℕ) (m : Memory) (q : List ℕ) (s : Started) (l : List Made) → s ≡ startOf n m q → Bytes (m .store) → startChecked n m q ≡ 0
     → MeetsAll (board (s .left) (s .queue)) l → BytesInAll (callsOf l) → Promise (board (s .left) (s .queue)) l
-promised-from-start m q s l e b c h i =
-    let n : board (startOf m q .left) (startOf m q .queue) ≡ board (s .left) (s .queue) = ap (λ (x : Started). board (x .left) (x .queue)) (sym e) in
-    let t = start-left m q c ∙ n in
-    let a = subst (λ (x : Board). MeetsAll x l → AnswersAll x l) t (λ j. answered (startWorld (m .store)) (emptied q) l (start-kept m q b c) j i) in
-    carried (board (s .left) (s .queue)) l h (a h) (subst (λ (x : Board). Served x (callsOf l)) n (started-served m q (callsOf l) b c i))
+promised-from-start n m q s l e b c h i =
+    let d : board (startOf n m q .left) (startOf n m q .queue) ≡ board (s .left) (s .queue) = ap (λ (x : Started). board (x .left) (x .queue)) (sym e) in
+    let t = start-left n m q c ∙ d in
+    let a = subst (λ (x : Board). MeetsAll x l → AnswersAll x l) t (λ j. answered (startWorld n (m .store)) (emptied q) l (start-kept n m q b c) j i) in
+    carried (board (s .left) (s .queue)) l h (a h) (subst (λ (x : Board). Served x (callsOf l)) d (started-served n m q (callsOf l) b c i))

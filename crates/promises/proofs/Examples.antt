@@ -5,12 +5,15 @@ use mathlib.Core.Bool.{Bool, true, false, cond, Bool·beq}
 use mathlib.Core.List.{List, [], _∷_}
 use native.Mathlib.Omega.{arith}
 use Prim.Native.Nat.{ℕ, _%_}
-use lib.ListN.{length-replicate, getD-replicate, replicate}
-use Rattle.pixels.specs.Framebuffer.{Region, Picture, width, plain, pixel, put, fill, height, repaint, picture, bytesOf, byteOf, digit, bitOf, cell}
+use lib.ListN.{length, length-replicate, getD-replicate, replicate}
+use borrow.Author.Tests.{eq-eqb}
+use Rattle.pixels.specs.Framebuffer.{Region, Picture, width, plain, pixel, put, fill, repaint, picture, bytesOf, byteOf, digit, bitOf, cell}
 use Rattle.pixels.specs.Regions.{within, some, point, rectangle, box}
 use Rattle.pixels.proofs.Bits.{bit-zero}
 use Rattle.pixels.proofs.Tests.{all, all-at, same}
 use Rattle.pixels.proofs.Painting.{pixel-put, length-repaint}
+use Rattle.canvas.specs.Sizes.{lowHeight, tallHeight, isHeight, lengthFor}
+use Rattle.canvas.proofs.Heights.{at-heights, height-most}
 use Rattle.line.specs.Line.{line, towards, rise, lineX, lineY}
 use Rattle.bar_graph.specs.Bars.{depth, lengthOf, heldTo, stripe, writeOf}
 use Rattle.spans.specs.Bits.{packedBit}
@@ -25,6 +28,7 @@ use Rattle.state.specs.State.{barOf}
 use Rattle.state.specs.Commands.{commandOf}
 use Rattle.record.specs.Reading.{decodeOf, portOf, phaseOf}
 use Rattle.record.specs.Writing.{encodeOf, portBytes, phaseBytes, panelBytes, manyBytes}
+use Rattle.rules.specs.World.{World}
 use Rattle.rules.specs.Fonts.{openFont, openedAt}
 use Rattle.rules.specs.Text.{fontChosen, chooseFont, wrapped, fitted, glyphAt, glyphOn, characterIn, character}
 use Rattle.rules.specs.Drawing.{drawPixel, drawLine}
@@ -35,7 +39,7 @@ use Rattle.rules.specs.Settings.{flowOn}
 use Rattle.rules.specs.Step.{obey, code, argument, alone, byPhase, refuse, after, step, replies}
 use Rattle.rules.specs.Calls.{run, said, taken}
 use Rattle.rules.proofs.GoodLists.{bytes-zeros}
-use Rattle.calls.specs.Memory.{framebufferRows, framebufferBytes, Kept}
+use Rattle.calls.specs.Memory.{Kept}
 use Rattle.calls.specs.Start.{startChecked, startOf, startWorld}
 use Rattle.calls.specs.Feed.{Fed, fedBytes, feedOf}
 use Rattle.calls.specs.List.{Board}
@@ -47,139 +51,164 @@ use Rattle.promises.specs.Examples.{Row, given, begun, fedTo, Shows, Giv
 abbrev store : List ℕ
 store = replicate 1024 0
 
-abbrev white : List ℕ
-white = replicate framebufferBytes 0
+abbrev white : ℕ → List ℕ
+white h = replicate (lengthFor h) 0
 
-passes : startChecked given (replicate 85 7) ≡ 0
+passes : (h : ℕ) → isHeight h ≡ true → startChecked h (given h) (replicate 85 7) ≡ 0
 unfolding startChecked directory.validOf directory.entriesFrom directory.readFrom directory.stepAt directory.lengthOf directory.bytesIn directory.sizesIn directory.zerosFrom directory.zeros directory.keepRules
-passes = refl
+passes h e = rw (e, eq-eqb (length (replicate (lengthFor h) 255)) (lengthFor h) (length-replicate {A = ℕ} (lengthFor h) 255))
 
-kept : Kept (startWorld store)
-kept = start-kept given (replicate 85 7) (bytes-zeros 1024) passes
+module _ (h : ℕ) (e : isHeight h ≡ true) where
+  abbrev begins : World
+  begins = startWorld h store
 
-started : begun .answer ≡ 0
-unfolding startOf
-started = rw passes
+  kept : Kept begins
+  kept = start-kept h (given h) (replicate 85 7) (bytes-zeros 1024) (passes h e)
 
-fed-is : (l : List ℕ) → fedTo l ≡ fedBytes (startWorld store) l (taken (startWorld store) 64 l)
-fed-is l = ap (λ (b : Board). feedOf (b .memory) l 64) (sym (start-left given (replicate 85 7) passes)) ∙ fed-kept (startWorld store) l 64 kept
+  started : begun h .answer ≡ 0
+  unfolding startOf
+  started = rw (passes h e)
 
-holds : (r : Row) → Gives (fedBytes (startWorld store) (r .stream) (taken (startWorld store) 64 (r .stream))) r → Holds r
-holds r g = (started, subst (λ (f : Fed). Gives f r) (sym (fed-is (r .stream))) g)
+  fed-is : (l : List ℕ) → fedTo h l ≡ fedBytes begins l (taken begins 64 l)
+  fed-is l = ap (λ (b : Board). feedOf (b .memory) l 64) (sym (start-left h (given h) (replicate 85 7) (passes h e))) ∙ fed-kept begins l 64 kept
+
+  holds : (r : Row) → Gives h (fedBytes begins (r .stream) (taken begins 64 (r .stream))) r → Holds h r
+  holds r g = (started, subst (λ (f : Fed). Gives h f r) (sym (fed-is (r .stream))) g)
 
 -- ---- what a painted framebuffer shows
 
-white-shows : Shows white nothing
+white-shows : {h : ℕ} → Shows h (white h) nothing
 unfolding pixel
-white-shows =
+white-shows {h} =
     record {
-      size = length-replicate {A = ℕ} framebufferBytes 0;
-      at = λ x y hx hy. ap (λ (b : ℕ). bitOf b (x % 8)) (getD-replicate {A = ℕ} framebufferBytes (cell x y) 0 0 (omega arith)) ∙ bit-zero (x % 8);
+      size = length-replicate {A = ℕ} (lengthFor h) 0;
+      at = λ x y hx hy. ap (λ (b : ℕ). bitOf b (x % 8)) (getD-replicate {A = ℕ} (lengthFor h) (cell x y) 0 0 (omega arith)) ∙ bit-zero (x % 8);
     }
 
-layer : (s : Region) (p : Picture) {g : List ℕ} {q : Picture} → Shows g q → Shows (put s p g) (λ x y. cond (s x y) (p x y) (q x y))
-layer s p {g} {q} h =
+layer : (s : Region) (p : Picture) {h : ℕ} {g : List ℕ} {q : Picture} → Shows h g q → Shows h (put s p g) (λ x y. cond (s x y) (p x y) (q x y))
+layer s p {g = g} {q = q} k =
     record {
-      size = length-repaint _ g ∙ h .size;
-      at = λ x y hx hy. pixel-put s p g x y (hx, omega (arith, h .size)) ∙ ap (cond (s x y) (p x y)) (h .at x y hx hy);
+      size = length-repaint _ g ∙ k .size;
+      at = λ x y hx hy. pixel-put s p g x y (hx, omega (arith, k .size)) ∙ ap (cond (s x y) (p x y)) (k .at x y hx hy);
     }
 
 abbrev alike : Picture → Picture → Bool
-alike p q = all width (λ x. all framebufferRows (λ y. Bool·beq (p x y) (q x y)))
+alike p q = all width (λ x. all tallHeight (λ y. Bool·beq (p x y) (q x y)))
 
--- compared at every pixel
-exactly : {g : List ℕ} {p : Picture} (q : Picture) → Shows g p → alike p q ≡ true → Shows g q
-exactly {p = p} q h e =
+-- compared at every pixel of the tall framebuffer, and so of the low one
+exactly : {h : ℕ} (e : isHeight h ≡ true) {g : List ℕ} {p : Picture} (q : Picture) → Shows h g p → alike p q ≡ true → Shows h g q
+exactly {h} e {p = p} q k a =
     record {
-      size = h .size;
-      at = λ x y hx hy. h .at x y hx hy ∙ same (p x y) (q x y) (all-at framebufferRows (λ y. Bool·beq (p x y) (q x y)) (all-at width (λ x. all framebufferRows (λ y. Bool·beq (p x y) (q x y))) e x hx) y hy);
+      size = k .size;
+      at = λ x y hx hy.
+          k .at x y hx hy
+          ∙ same (p x y) (q x y)
+          (all-at tallHeight (λ y. Bool·beq (p x y) (q x y)) (all-at width (λ x. all tallHeight (λ y. Bool·beq (p x y) (q x y))) a x hx) y (omega (arith, height-most h e)));
     }
 
 -- ---- the rows
 
-corner-bytes : HasAll (fill (point 239 63) true (fill (point 0 0) true white)) (byte 0 128 ∷ byte 1919 1 ∷ [])
+low : isHeight lowHeight ≡ true
+unfolding isHeight
+low = refl
+
+tall : isHeight tallHeight ≡ true
+unfolding isHeight
+tall = refl
+
+corner-bytes : (h : ℕ) → isHeight h ≡ true → HasAll (fill (point 239 63) true (fill (point 0 0) true (white h))) (byte 0 128 ∷ byte 1919 1 ∷ [])
 unfolding repaint picture bytesOf byteOf digit pixel bitOf within
-corner-bytes = (refl, (refl, tt))
+corner-bytes h e =
+    at-heights (λ (n : ℕ). HasAll (fill (point 239 63) true (fill (point 0 0) true (white n))) (byte 0 128 ∷ byte 1919 1 ∷ [])) (refl, (refl, tt)) (refl, (refl, tt)) h e
 
-corner-pixels : Holds cornerPixels
+corner-pixels : (h : ℕ) → isHeight h ≡ true → Holds h cornerPixels
 unfolding run said taken step replies after byPhase alone code argument obey commandOf decodeOf portOf phaseOf encodeOf portBytes phaseBytes panelBytes manyBytes within drawPixel
-corner-pixels =
-    holds cornerPixels (record { answered = refl; consumed = refl; shows = exactly _ (layer (point 239 63) (plain true) (layer (point 0 0) (plain true) white-shows)) refl; has = corner-bytes; replies = refl; refused = refl; reason = refl; flows = refl })
+corner-pixels h e =
+    holds h e cornerPixels (record { answered = refl; consumed = refl; shows = exactly e _ (layer (point 239 63) (plain true) (layer (point 0 0) (plain true) white-shows)) refl; has = corner-bytes h e; replies = refl; refused = refl; reason = refl; flows = refl })
 
-pixel-out-of-bounds : Holds pixelOutOfBounds
+pixel-out-of-bounds : (h : ℕ) → isHeight h ≡ true → Holds h pixelOutOfBounds
 unfolding run said taken step replies after byPhase alone code argument obey commandOf decodeOf portOf phaseOf encodeOf portBytes phaseBytes panelBytes manyBytes within drawPixel
-pixel-out-of-bounds =
-    holds pixelOutOfBounds (record { answered = refl; consumed = refl; shows = exactly _ (layer (point 240 0) (plain true) white-shows) refl; has = tt; replies = refl; refused = refl; reason = refl; flows = refl })
+pixel-out-of-bounds h e =
+    holds h e pixelOutOfBounds (record { answered = refl; consumed = refl; shows = exactly e _ (layer (point 240 0) (plain true) white-shows) refl; has = tt; replies = refl; refused = refl; reason = refl; flows = refl })
 
-line-down : Holds lineDown
+line-down : (h : ℕ) → isHeight h ≡ true → Holds h lineDown
 unfolding run said taken step replies after byPhase alone code argument obey commandOf decodeOf portOf phaseOf encodeOf portBytes phaseBytes panelBytes manyBytes within drawLine some towards rise lineX lineY
-line-down =
-    holds lineDown (record { answered = refl; consumed = refl; shows = exactly _ (layer (line 0 0 2 1) (plain true) white-shows) refl; has = tt; replies = refl; refused = refl; reason = refl; flows = refl })
+line-down h e =
+    holds h e lineDown (record { answered = refl; consumed = refl; shows = exactly e _ (layer (line 0 0 2 1) (plain true) white-shows) refl; has = tt; replies = refl; refused = refl; reason = refl; flows = refl })
 
-line-back : Holds lineBack
+line-back : (h : ℕ) → isHeight h ≡ true → Holds h lineBack
 unfolding run said taken step replies after byPhase alone code argument obey commandOf decodeOf portOf phaseOf encodeOf portBytes phaseBytes panelBytes manyBytes within drawLine some towards rise lineX lineY
-line-back =
-    holds lineBack (record { answered = refl; consumed = refl; shows = exactly _ (layer (line 2 1 0 0) (plain true) white-shows) refl; has = tt; replies = refl; refused = refl; reason = refl; flows = refl })
+line-back h e =
+    holds h e lineBack (record { answered = refl; consumed = refl; shows = exactly e _ (layer (line 2 1 0 0) (plain true) white-shows) refl; has = tt; replies = refl; refused = refl; reason = refl; flows = refl })
 
-one-pixel : Holds onePixel
+one-pixel : (h : ℕ) → isHeight h ≡ true → Holds h onePixel
 unfolding run said taken step replies after byPhase alone code argument obey commandOf decodeOf portOf phaseOf encodeOf portBytes phaseBytes panelBytes manyBytes within drawLine some towards rise lineX lineY
-one-pixel =
-    holds onePixel (record { answered = refl; consumed = refl; shows = exactly _ (layer (line 7 7 7 7) (plain true) white-shows) refl; has = tt; replies = refl; refused = refl; reason = refl; flows = refl })
+one-pixel h e =
+    holds h e onePixel (record { answered = refl; consumed = refl; shows = exactly e _ (layer (line 7 7 7 7) (plain true) white-shows) refl; has = tt; replies = refl; refused = refl; reason = refl; flows = refl })
 
-bar-from-bottom : Holds barFromBottom
-unfolding run said taken step replies after byPhase alone code argument obey commandOf decodeOf portOf phaseOf encodeOf portBytes phaseBytes panelBytes manyBytes within setUpBar writeBar height depth lengthOf heldTo stripe writeOf
-bar-from-bottom =
-    holds barFromBottom (record { answered = refl; consumed = refl; shows = exactly _ (layer (stripe (barOf 0 10 10 12 19 0) 0 10) (plain true) white-shows) refl; has = tt; replies = refl; refused = refl; reason = refl; flows = refl })
+bar-from-bottom : (h : ℕ) → isHeight h ≡ true → Holds h barFromBottom
+unfolding run said taken step replies after byPhase alone code argument obey commandOf decodeOf portOf phaseOf encodeOf portBytes phaseBytes panelBytes manyBytes within setUpBar writeBar depth lengthOf heldTo stripe writeOf
+bar-from-bottom h e =
+    at-heights (λ (n : ℕ). Holds n barFromBottom)
+    (holds lowHeight low barFromBottom (record { answered = refl; consumed = refl; shows = exactly low _ (layer (stripe (barOf 0 10 10 12 19 0) 0 10) (plain true) white-shows) refl; has = tt; replies = refl; refused = refl; reason = refl; flows = refl }))
+    (holds tallHeight tall barFromBottom (record { answered = refl; consumed = refl; shows = exactly tall _ (layer (stripe (barOf 0 10 10 12 19 0) 0 10) (plain true) white-shows) refl; has = tt; replies = refl; refused = refl; reason = refl; flows = refl })) h e
 
-bar-from-left : Holds barFromLeft
-unfolding run said taken step replies after byPhase alone code argument obey commandOf decodeOf portOf phaseOf encodeOf portBytes phaseBytes panelBytes manyBytes within setUpBar writeBar height depth lengthOf heldTo stripe writeOf
-bar-from-left =
-    holds barFromLeft (record { answered = refl; consumed = refl; shows = exactly _ (layer (stripe (barOf 1 0 0 9 1 0) 0 3) (plain true) (layer (rectangle 0 0 9 1) (plain false) white-shows)) refl; has = tt; replies = refl; refused = refl; reason = refl; flows = refl })
+bar-from-left : (h : ℕ) → isHeight h ≡ true → Holds h barFromLeft
+unfolding run said taken step replies after byPhase alone code argument obey commandOf decodeOf portOf phaseOf encodeOf portBytes phaseBytes panelBytes manyBytes within setUpBar writeBar depth lengthOf heldTo stripe writeOf
+bar-from-left h e =
+    at-heights (λ (n : ℕ). Holds n barFromLeft)
+    (holds lowHeight low barFromLeft (record { answered = refl; consumed = refl; shows = exactly low _ (layer (stripe (barOf 1 0 0 9 1 0) 0 3) (plain true) (layer (rectangle 0 0 9 1) (plain false) white-shows)) refl; has = tt; replies = refl; refused = refl; reason = refl; flows = refl }))
+    (holds tallHeight tall barFromLeft (record { answered = refl; consumed = refl; shows = exactly tall _ (layer (stripe (barOf 1 0 0 9 1 0) 0 3) (plain true) (layer (rectangle 0 0 9 1) (plain false) white-shows)) refl; has = tt; replies = refl; refused = refl; reason = refl; flows = refl })) h e
 
-bar-from-right : Holds barFromRight
-unfolding run said taken step replies after byPhase alone code argument obey commandOf decodeOf portOf phaseOf encodeOf portBytes phaseBytes panelBytes manyBytes within setUpBar writeBar height depth lengthOf heldTo stripe writeOf
-bar-from-right =
-    holds barFromRight (record { answered = refl; consumed = refl; shows = exactly _ (layer (stripe (barOf 3 0 0 9 1 0) 0 3) (plain true) (layer (rectangle 0 0 9 1) (plain false) white-shows)) refl; has = tt; replies = refl; refused = refl; reason = refl; flows = refl })
+bar-from-right : (h : ℕ) → isHeight h ≡ true → Holds h barFromRight
+unfolding run said taken step replies after byPhase alone code argument obey commandOf decodeOf portOf phaseOf encodeOf portBytes phaseBytes panelBytes manyBytes within setUpBar writeBar depth lengthOf heldTo stripe writeOf
+bar-from-right h e =
+    at-heights (λ (n : ℕ). Holds n barFromRight)
+    (holds lowHeight low barFromRight (record { answered = refl; consumed = refl; shows = exactly low _ (layer (stripe (barOf 3 0 0 9 1 0) 0 3) (plain true) (layer (rectangle 0 0 9 1) (plain false) white-shows)) refl; has = tt; replies = refl; refused = refl; reason = refl; flows = refl }))
+    (holds tallHeight tall barFromRight (record { answered = refl; consumed = refl; shows = exactly tall _ (layer (stripe (barOf 3 0 0 9 1 0) 0 3) (plain true) (layer (rectangle 0 0 9 1) (plain false) white-shows)) refl; has = tt; replies = refl; refused = refl; reason = refl; flows = refl })) h e
 
-letter-t : Holds letterT
-unfolding run said taken step replies after byPhase alone code argument obey commandOf decodeOf portOf phaseOf encodeOf portBytes phaseBytes panelBytes manyBytes within beginUpload uploadData appended recordBytes directory.entriesFrom directory.readFrom directory.stepAt directory.entryAt directory.lengthOf directory.hasFile directory.findIn directory.bytesIn directory.sizesIn height fontChosen chooseFont openFont openedAt isFont areEntries isEntry offsetAt widthAt between packedBytes character characterIn glyphOn glyphAt glyphOf glyphIn wrapped fitted bitOf packedBit packed
-letter-t =
-    holds letterT (record { answered = refl; consumed = refl; shows = exactly _ (layer (box 0 3 0 5) (packed 0 0 3 (233 ∷ 36 ∷ [])) white-shows) refl; has = tt; replies = refl; refused = refl; reason = refl; flows = refl })
+letter-t : (h : ℕ) → isHeight h ≡ true → Holds h letterT
+unfolding run said taken step replies after byPhase alone code argument obey commandOf decodeOf portOf phaseOf encodeOf portBytes phaseBytes panelBytes manyBytes within beginUpload uploadData appended recordBytes directory.entriesFrom directory.readFrom directory.stepAt directory.entryAt directory.lengthOf directory.hasFile directory.findIn directory.bytesIn directory.sizesIn fontChosen chooseFont openFont openedAt isFont areEntries isEntry offsetAt widthAt between packedBytes character characterIn glyphOn glyphAt glyphOf glyphIn wrapped fitted bitOf packedBit packed
+letter-t h e =
+    at-heights (λ (n : ℕ). Holds n letterT)
+    (holds lowHeight low letterT (record { answered = refl; consumed = refl; shows = exactly low _ (layer (box 0 3 0 5) (packed 0 0 3 (233 ∷ 36 ∷ [])) white-shows) refl; has = tt; replies = refl; refused = refl; reason = refl; flows = refl }))
+    (holds tallHeight tall letterT (record { answered = refl; consumed = refl; shows = exactly tall _ (layer (box 0 3 0 5) (packed 0 0 3 (233 ∷ 36 ∷ [])) white-shows) refl; has = tt; replies = refl; refused = refl; reason = refl; flows = refl })) h e
 
-saved-picture : Holds savedPicture
+saved-picture : (h : ℕ) → isHeight h ≡ true → Holds h savedPicture
 unfolding run said taken step replies after byPhase alone code argument obey commandOf decodeOf portOf phaseOf encodeOf portBytes phaseBytes panelBytes manyBytes within beginUpload uploadData appended recordBytes directory.entriesFrom directory.readFrom directory.stepAt directory.entryAt directory.lengthOf directory.hasFile directory.findIn directory.bytesIn directory.sizesIn bitmapIn bitmapAt showBitmap isBitmap packedBytes bitOf packedBit packed
-saved-picture =
-    holds savedPicture (record { answered = refl; consumed = refl; shows = exactly _ (layer (box 0 5 0 4) (packed 0 0 5 (170 ∷ 184 ∷ 48 ∷ [])) white-shows) refl; has = tt; replies = refl; refused = refl; reason = refl; flows = refl })
+saved-picture h e =
+    holds h e savedPicture (record { answered = refl; consumed = refl; shows = exactly e _ (layer (box 0 5 0 4) (packed 0 0 5 (170 ∷ 184 ∷ 48 ∷ [])) white-shows) refl; has = tt; replies = refl; refused = refl; reason = refl; flows = refl })
 
 -- a byte of data in line
-data-layer : (k b : ℕ) {g : List ℕ} {q : Picture} → Shows g q → Shows (put (inlinePixels 0 0 4 3 k) (inlineBits 0 4 k b) g) (λ x y. cond (inlinePixels 0 0 4 3 k x y) (inlineBits 0 4 k b x y) (q x y))
-data-layer k b h = layer (inlinePixels 0 0 4 3 k) (inlineBits 0 4 k b) h
+data-layer : (k b : ℕ) {h : ℕ} {g : List ℕ} {q : Picture} → Shows h g q → Shows h (put (inlinePixels 0 0 4 3 k) (inlineBits 0 4 k b) g) (λ x y. cond (inlinePixels 0 0 4 3 k x y) (inlineBits 0 4 k b x y) (q x y))
+data-layer k b s = layer (inlinePixels 0 0 4 3 k) (inlineBits 0 4 k b) s
 
-picture-in-line : Holds pictureInLine
+picture-in-line : (h : ℕ) → isHeight h ≡ true → Holds h pictureInLine
 unfolding run said taken step replies after byPhase alone code argument obey commandOf decodeOf portOf phaseOf encodeOf portBytes phaseBytes panelBytes manyBytes within beginInline inlineData drawPixel inlinePixels inlineBits bitOf
-picture-in-line =
-    holds pictureInLine (record { answered = refl; consumed = refl; shows = exactly _ (layer (point 239 63) (plain true) (data-layer 3 24 (data-layer 2 224 (data-layer 1 80 (data-layer 0 168 white-shows))))) refl; has = tt; replies = refl; refused = refl; reason = refl; flows = refl })
+picture-in-line h e =
+    holds h e pictureInLine (record { answered = refl; consumed = refl; shows = exactly e _ (layer (point 239 63) (plain true) (data-layer 3 24 (data-layer 2 224 (data-layer 1 80 (data-layer 0 168 white-shows))))) refl; has = tt; replies = refl; refused = refl; reason = refl; flows = refl })
 
-flow-refused : Holds flowRefused
+flow-refused : (h : ℕ) → isHeight h ≡ true → Holds h flowRefused
 unfolding run said taken step replies after byPhase alone code argument obey commandOf decodeOf portOf phaseOf encodeOf portBytes phaseBytes panelBytes manyBytes within flowOn refuse
-flow-refused =
-    holds flowRefused (record { answered = refl; consumed = refl; shows = white-shows; has = tt; replies = refl; refused = refl; reason = refl; flows = refl })
+flow-refused h e =
+    holds h e flowRefused (record { answered = refl; consumed = refl; shows = white-shows; has = tt; replies = refl; refused = refl; reason = refl; flows = refl })
 
-flow-accepted : Holds flowAccepted
+flow-accepted : (h : ℕ) → isHeight h ≡ true → Holds h flowAccepted
 unfolding run said taken step replies after byPhase alone code argument obey commandOf decodeOf portOf phaseOf encodeOf portBytes phaseBytes panelBytes manyBytes within flowOn
-flow-accepted =
-    holds flowAccepted (record { answered = refl; consumed = refl; shows = white-shows; has = tt; replies = refl; refused = refl; reason = refl; flows = refl })
+flow-accepted h e =
+    holds h e flowAccepted (record { answered = refl; consumed = refl; shows = white-shows; has = tt; replies = refl; refused = refl; reason = refl; flows = refl })
 
-upload-fits : Holds uploadFits
+upload-fits : (h : ℕ) → isHeight h ≡ true → Holds h uploadFits
 unfolding run said taken step replies after byPhase alone code argument obey commandOf decodeOf portOf phaseOf encodeOf portBytes phaseBytes panelBytes manyBytes within beginUpload uploadData appended recordBytes directory.entriesFrom directory.readFrom directory.stepAt directory.entryAt directory.lengthOf directory.hasFile directory.findIn directory.bytesIn directory.sizesIn
-upload-fits =
-    holds uploadFits (record { answered = refl; consumed = refl; shows = white-shows; has = tt; replies = refl; refused = refl; reason = refl; flows = refl })
+upload-fits h e =
+    holds h e uploadFits (record { answered = refl; consumed = refl; shows = white-shows; has = tt; replies = refl; refused = refl; reason = refl; flows = refl })
 
-upload-too-large : Holds uploadTooLarge
+upload-too-large : (h : ℕ) → isHeight h ≡ true → Holds h uploadTooLarge
 unfolding run said taken step replies after byPhase alone code argument obey commandOf decodeOf portOf phaseOf encodeOf portBytes phaseBytes panelBytes manyBytes within beginUpload uploadData appended recordBytes directory.entriesFrom directory.readFrom directory.stepAt directory.entryAt directory.lengthOf directory.hasFile directory.findIn directory.bytesIn directory.sizesIn refuse
-upload-too-large =
-    holds uploadTooLarge (record { answered = refl; consumed = refl; shows = white-shows; has = tt; replies = refl; refused = refl; reason = refl; flows = refl })
+upload-too-large h e =
+    holds h e uploadTooLarge (record { answered = refl; consumed = refl; shows = white-shows; has = tt; replies = refl; refused = refl; reason = refl; flows = refl })
 
--- ALL OF THEM
-pub examples : AllHold table
-examples = (corner-pixels, (pixel-out-of-bounds, (line-down, (line-back, (one-pixel, (bar-from-bottom, (bar-from-left, (bar-from-right, (letter-t, (saved-picture, (picture-in-line, (flow-refused, (flow-accepted, (upload-fits, (upload-too-large, tt)))))))))))))))
+-- ALL OF THEM, at either height
+pub examples : (h : ℕ) → isHeight h ≡ true → AllHold h table
+examples h e =
+    (corner-pixels h e, (pixel-out-of-bounds h e, (line-down h e, (line-back h e, (one-pixel h e, (bar-from-bottom h e, (bar-from-left h e, (bar-from-right h e, (letter-t h e, (saved-picture h e, (picture-in-line h e, (flow-refused h e, (flow-accepted h e, (upload-fits h e, (upload-too-large h e, tt)))))))))))))))

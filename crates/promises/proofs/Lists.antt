@@ -67,6 +67,6 @@ same b (refusedArrive k j x s ∷ l) h =
 same b (refusedTake k j s ∷ l) h =
     let t = renamed _ b l (take-unmoved b k j s (h .0)) (same _ l (h .1)) in
     record { board-same = t .0; consumed-same = t .1; sent-same = t .2 }
-same b (refusedStart z k s ∷ l) h =
-    let t = renamed _ b l (start-unmoved b z k s (h .0)) (same _ l (h .1)) in
+same b (refusedStart n z k s ∷ l) h =
+    let t = renamed _ b l (start-unmoved b n z k s (h .0)) (same _ l (h .1)) in
     record { board-same = t .0; consumed-same = t .1; sent-same = t .2 }

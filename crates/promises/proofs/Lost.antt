@@ -71,4 +71,4 @@ lost-counted b (refusedArrive t k x s ∷ l) h =
     let e = refused-arrive (lent t (b .memory .state)) (lent k (b .queue)) x s (h .0 .0) (h .0 .1) in
     stayed b (left b (refusedArrive t k x s)) _ (allDropped l) _ (arrive-unmoved b t k x s (h .0)) (ap (λ (y : Served). cond (eqb (y .answer) 7) 1 0) e) (lost-counted _ l (h .1))
 lost-counted b (refusedTake t k s ∷ l) h = stayed b (left b (refusedTake t k s)) 0 (allDropped l) _ (take-unmoved b t k s (h .0)) refl (lost-counted _ l (h .1))
-lost-counted b (refusedStart z k s ∷ l) h = stayed b (left b (refusedStart z k s)) 0 (allDropped l) _ (start-unmoved b z k s (h .0)) refl (lost-counted _ l (h .1))
+lost-counted b (refusedStart n z k s ∷ l) h = stayed b (left b (refusedStart n z k s)) 0 (allDropped l) _ (start-unmoved b n z k s (h .0)) refl (lost-counted _ l (h .1))

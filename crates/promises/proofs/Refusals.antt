@@ -22,9 +22,9 @@ unfolding feedCall feedOf
 refused-feed m p r c e f = e ∙ rw f
 
 -- 1 to 4 of a start: every lent byte stays
-pub refused-start : (m : Memory) (q : List ℕ) (s : Started) → s ≡ startOf m q → eqb (startChecked m q) 0 ≡ false → s ≡ started m q (startChecked m q)
+pub refused-start : (h : ℕ) (m : Memory) (q : List ℕ) (s : Started) → s ≡ startOf h m q → eqb (startChecked h m q) 0 ≡ false → s ≡ started m q (startChecked h m q)
 unfolding startOf
-refused-start m q s e f = e ∙ rw f
+refused-start h m q s e f = e ∙ rw f
 
 -- 3 of an arrival and of a take
 pub refused-arrive : (st q : List ℕ) (b : ℕ) (s : Served) → s ≡ arriveCall st q b → bothSound st q ≡ false → s ≡ served 3 0 0 q

@@ -26,10 +26,10 @@ pub cut-anyhow : (m : Memory) (q : List ℕ) (l : List Made) → ByteMemory m �
     → EnoughAll (loaded m) (chunksIn (callsOf l)) → Whole (board m q) l
 cut-anyhow m q l b e h i enough = carried (board m q) l h (promised m q l b e h i) (pieces-whole m q (callsOf l) b e i enough)
 
-pub cut-from-start : (m : Memory) (q : List ℕ) (s : Started) (l : List Made) → s ≡ startOf m q → Bytes (m .store) → startChecked m q ≡ 0
-    → MeetsAll (board (s .left) (s .queue)) l → BytesInAll (callsOf l) → EnoughAll (startWorld (m .store)) (chunksIn (callsOf l)) → Whole (board (s .left) (s .queue)) l
-cut-from-start m q s l e b c h i enough =
-    carried (board (s .left) (s .queue)) l h (promised-from-start m q s l e b c h i) (rw e (started-whole m q (callsOf l) b c i enough))
+pub cut-from-start : (n : ℕ) (m : Memory) (q : List ℕ) (s : Started) (l : List Made) → s ≡ startOf n m q → Bytes (m .store) → startChecked n m q ≡ 0
+    → MeetsAll (board (s .left) (s .queue)) l → BytesInAll (callsOf l) → EnoughAll (startWorld n (m .store)) (chunksIn (callsOf l)) → Whole (board (s .left) (s .queue)) l
+cut-from-start n m q s l e b c h i enough =
+    carried (board (s .left) (s .queue)) l h (promised-from-start n m q s l e b c h i) (rw e (started-whole n m q (callsOf l) b c i enough))
 
 -- two ways to cut one stream
 pub however-cut : (b : Board) (l k : List Made) → Whole b l → Whole b k → joined (chunksIn (callsOf l)) ≡ joined (chunksIn (callsOf k))

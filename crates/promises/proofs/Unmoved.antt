@@ -35,7 +35,7 @@ module _ (b : Board) where
       let e = refused-take (lent t (b .memory .state)) (lent k (b .queue)) s (h .0) (h .1) in
       ap (λ (y : Served). board (b .memory) (returned k (b .queue) (y .queue))) e ∙ ap (board (b .memory)) (returned-lent k (b .queue))
 
-  pub start-unmoved : (z : Slices) (k : Slice) (s : Started) → Meets b (refusedStart z k s) → left b (refusedStart z k s) ≡ b
-  start-unmoved z k s h =
-      let e = refused-start (lentMemory z (b .memory)) (lent k (b .queue)) s (h .0) (h .1) in
+  pub start-unmoved : (n : ℕ) (z : Slices) (k : Slice) (s : Started) → Meets b (refusedStart n z k s) → left b (refusedStart n z k s) ≡ b
+  start-unmoved n z k s h =
+      let e = refused-start n (lentMemory z (b .memory)) (lent k (b .queue)) s (h .0) (h .1) in
       ap (λ (y : Started). board (returnedMemory z (b .memory) (y .left)) (returned k (b .queue) (y .queue))) e ∙ rw (memory-lent z (b .memory), returned-lent k (b .queue))

@@ -21,7 +21,7 @@ Answers b (handed s) = s .answer ≡ cond (soundRecord (b .queue)) (cond (eqb (d
 Answers b (refusedFeed z p r c) = c .answer ≡ checked (lentMemory z (b .memory))
 Answers b (refusedArrive t k x s) = s .answer ≡ 3
 Answers b (refusedTake t k s) = s .answer ≡ 3
-Answers b (refusedStart z k s) = s .answer ≡ startChecked (lentMemory z (b .memory)) (lent k (b .queue))
+Answers b (refusedStart h z k s) = s .answer ≡ startChecked h (lentMemory z (b .memory)) (lent k (b .queue))
 
 unfoldable pub AnswersAll : Board → List Made → Type 0
 AnswersAll b [] = Unit {0}

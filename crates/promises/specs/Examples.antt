@@ -1,4 +1,4 @@
--- THE MARKED EXAMPLES, one table. Each row is a stream: it is fed, in one piece, to a display that was started on a store of 1,024 zeros.
+-- THE MARKED EXAMPLES, one table. Each row is a stream: it is fed, in one piece, to a display of h rows that was started on a store of 1,024 zeros.
 -- Assumes nothing.
 use mathlib.Core.Path.{_≡_}
 use mathlib.Core.List.{List, [], _∷_}
@@ -7,10 +7,12 @@ use Prim.Native.Nat.{ℕ, _<_}
 use lib.ListN.{length, getD, replicate}
 use Rattle.pixels.specs.Framebuffer.{Picture, width, pixel}
 use Rattle.pixels.specs.Regions.{point, box}
+use Rattle.canvas.specs.Sizes.{lengthFor}
 use Rattle.queue.specs.declared.Flow.{Flow}
 use Rattle.rules.specs.Settings.{flow}
+use Rattle.record.specs.Layout.{recordSize}
 use Rattle.record.specs.Reading.{decodeOf}
-use Rattle.calls.specs.Memory.{framebufferRows, framebufferBytes, Memory, memory}
+use Rattle.calls.specs.Memory.{Memory, memory}
 use Rattle.calls.specs.Start.{Started, startOf}
 use Rattle.calls.specs.Feed.{Fed, feedOf}
 
@@ -34,44 +36,44 @@ row l p bytes sent count last f = record { stream = l; black = p; bytes = bytes;
 -- ---- the calls
 
 -- memory of another use: all pixels black, records of any bytes
-abbrev pub given : Memory
-given = memory (replicate framebufferBytes 255) (replicate 1024 0) (replicate 201 7)
+abbrev pub given : ℕ → Memory
+given h = memory (replicate (lengthFor h) 255) (replicate 1024 0) (replicate recordSize 7)
 
-abbrev pub begun : Started
-begun = startOf given (replicate 85 7)
+abbrev pub begun : ℕ → Started
+begun h = startOf h (given h) (replicate 85 7)
 
 -- with room for 64 reply bytes
-abbrev pub fedTo : List ℕ → Fed
-fedTo l = feedOf (begun .left) l 64
+abbrev pub fedTo : ℕ → List ℕ → Fed
+fedTo h l = feedOf (begun h .left) l 64
 
 -- ---- what a row says
 
--- a framebuffer of 240 by 64 shows exactly this
-pub record Shows (g : List ℕ) (p : Picture) : Type 0 where
-  pub size : length g ≡ framebufferBytes
-  pub at : (x y : ℕ) → x < width → y < framebufferRows → pixel g x y ≡ p x y
+-- a framebuffer of 240 by h shows exactly this
+pub record Shows (h : ℕ) (g : List ℕ) (p : Picture) : Type 0 where
+  pub size : length g ≡ lengthFor h
+  pub at : (x y : ℕ) → x < width → y < h → pixel g x y ≡ p x y
 
 abbrev pub HasAll : List ℕ → List Byte → Type 0
 HasAll g [] = Unit {0}
 HasAll g (b ∷ l) = (getD g (b .at) 0 ≡ b .is) × HasAll g l
 
 -- start and feed answer 0, the whole stream is consumed, and this is what it leaves and sends
-pub record Gives (f : Fed) (r : Row) : Type 0 where
+pub record Gives (h : ℕ) (f : Fed) (r : Row) : Type 0 where
   pub answered : f .answer ≡ 0
   pub consumed : f .consumed ≡ length (r .stream)
-  pub shows : Shows (f .left .framebuffer) (r .black)
+  pub shows : Shows h (f .left .framebuffer) (r .black)
   pub has : HasAll (f .left .framebuffer) (r .bytes)
   pub replies : f .sent ≡ r .sent
   pub refused : decodeOf (f .left .state) .port .refusals .count ≡ r .count
   pub reason : decodeOf (f .left .state) .port .refusals .last ≡ r .last
   pub flows : decodeOf (f .left .state) .port .flow ≡ r .flow
 
-abbrev pub Holds : Row → Type 0
-Holds r = (begun .answer ≡ 0) × Gives (fedTo (r .stream)) r
+abbrev pub Holds : ℕ → Row → Type 0
+Holds h r = (begun h .answer ≡ 0) × Gives h (fedTo h (r .stream)) r
 
-abbrev pub AllHold : List Row → Type 0
-AllHold [] = Unit {0}
-AllHold (r ∷ l) = Holds r × AllHold l
+abbrev pub AllHold : ℕ → List Row → Type 0
+AllHold h [] = Unit {0}
+AllHold h (r ∷ l) = Holds h r × AllHold h l
 
 abbrev pub nothing : Picture
 nothing x y = false

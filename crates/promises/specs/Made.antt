@@ -52,7 +52,7 @@ pub data Made : Type 0 where
   refusedFeed : Slices → List ℕ → List ℕ → Called → Made
   refusedArrive : Slice → Slice → ℕ → Served → Made
   refusedTake : Slice → Slice → Served → Made
-  refusedStart : Slices → Slice → Started → Made
+  refusedStart : ℕ → Slices → Slice → Started → Made
 
 abbrev pub Meets : Board → Made → Type 0
 Meets b (fed p r c) = c ≡ feedCall (b .memory) p r
@@ -63,8 +63,8 @@ Meets b (refusedArrive t k x s) =
     (s ≡ arriveCall (lent t (b .memory .state)) (lent k (b .queue)) x) × (bothSound (lent t (b .memory .state)) (lent k (b .queue)) ≡ false)
 Meets b (refusedTake t k s) =
     (s ≡ takeCall (lent t (b .memory .state)) (lent k (b .queue))) × (bothSound (lent t (b .memory .state)) (lent k (b .queue)) ≡ false)
-Meets b (refusedStart z k s) =
-    (s ≡ startOf (lentMemory z (b .memory)) (lent k (b .queue))) × (eqb (startChecked (lentMemory z (b .memory)) (lent k (b .queue))) 0 ≡ false)
+Meets b (refusedStart h z k s) =
+    (s ≡ startOf h (lentMemory z (b .memory)) (lent k (b .queue))) × (eqb (startChecked h (lentMemory z (b .memory)) (lent k (b .queue))) 0 ≡ false)
 
 -- the board after it: each slice of its own that was lent holds what the call left there
 abbrev pub left : Board → Made → Board
@@ -74,7 +74,7 @@ left b (handed s) = board (b .memory) (s .queue)
 left b (refusedFeed z p r c) = board (returnedMemory z (b .memory) (c .left)) (b .queue)
 left b (refusedArrive t k x s) = board (b .memory) (returned k (b .queue) (s .queue))
 left b (refusedTake t k s) = board (b .memory) (returned k (b .queue) (s .queue))
-left b (refusedStart z k s) = board (returnedMemory z (b .memory) (s .left)) (returned k (b .queue) (s .queue))
+left b (refusedStart h z k s) = board (returnedMemory z (b .memory) (s .left)) (returned k (b .queue) (s .queue))
 
 -- each finds what the last one left
 unfoldable pub MeetsAll : Board → List Made → Type 0
@@ -95,7 +95,7 @@ consumed (handed s) = []
 consumed (refusedFeed z p r c) = take (c .consumed) p
 consumed (refusedArrive t k x s) = []
 consumed (refusedTake t k s) = []
-consumed (refusedStart z k s) = []
+consumed (refusedStart h z k s) = []
 
 abbrev pub sent : Made → List ℕ
 sent (fed p r c) = take (c .replied) (c .replies)
@@ -104,7 +104,7 @@ sent (handed s) = []
 sent (refusedFeed z p r c) = take (c .replied) (c .replies)
 sent (refusedArrive t k x s) = []
 sent (refusedTake t k s) = []
-sent (refusedStart z k s) = []
+sent (refusedStart h z k s) = []
 
 unfoldable pub allConsumed : List Made → List ℕ
 allConsumed [] = []
@@ -123,7 +123,7 @@ callsOf (handed s ∷ l) = takes ∷ callsOf l
 callsOf (refusedFeed z p r c ∷ l) = callsOf l
 callsOf (refusedArrive t k x s ∷ l) = callsOf l
 callsOf (refusedTake t k s ∷ l) = callsOf l
-callsOf (refusedStart z k s ∷ l) = callsOf l
+callsOf (refusedStart h z k s ∷ l) = callsOf l
 
 -- bytes dropped: arrivals that answered 7
 abbrev pub dropped : Made → ℕ
@@ -133,7 +133,7 @@ dropped (handed s) = 0
 dropped (refusedFeed z p r c) = 0
 dropped (refusedArrive t k x s) = cond (eqb (s .answer) 7) 1 0
 dropped (refusedTake t k s) = 0
-dropped (refusedStart z k s) = 0
+dropped (refusedStart h z k s) = 0
 
 unfoldable pub allDropped : List Made → ℕ
 allDropped [] = 0

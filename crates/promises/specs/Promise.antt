@@ -11,7 +11,7 @@ use Rattle.bar_graph.specs.Bars.{rectangleOf, fullPicture}
 use Rattle.bar_ledger.specs.Claim.{ledgerAt, Agrees}
 use Rattle.bar_ledger.specs.Since.{SinceZero}
 use Rattle.queue.specs.Record as queue-record
-use Rattle.record.specs.Reading.{decodeOf}
+use Rattle.record.specs.Reading.{heightIn, decodeOf}
 use Rattle.state.specs.State.{barAt}
 use Rattle.rules.specs.World.{port, panel}
 use Rattle.rules.specs.Step.{step}
@@ -47,6 +47,8 @@ pub record Promise (b : Board) (l : List Made) : Type 0 where
   -- the refusal count and the last refusal are the stream's
   pub count : decodeOf (leftAll b l .memory .state) .port .refusals .count ≡ (port (loaded (b .memory)) .refusals .count + refusedOf (loaded (b .memory)) (allConsumed l)) % 65536
   pub last : decodeOf (leftAll b l .memory .state) .port .refusals .last ≡ lastOf (loaded (b .memory)) (allConsumed l) (port (loaded (b .memory)) .refusals .last)
+  -- the height stays
+  pub height : heightIn (leftAll b l .memory .state) ≡ heightIn (b .memory .state)
   -- the next call is not refused with 1 to 4; an arrival or a take is not where the queue record was sound
   pub again : checked (leftAll b l .memory) ≡ 0
   pub line-again : queue-record.soundRecord (b .queue) ≡ true → bothSound (leftAll b l .memory .state) (leftAll b l .queue) ≡ true

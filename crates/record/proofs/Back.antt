@@ -16,6 +16,7 @@ use Rattle.state.specs.declared.BarSlot.{BarSlot}
 use Rattle.state.specs.declared.Strip.{Strip}
 use Rattle.state.specs.declared.Panel.{Panel}
 use Rattle.state.specs.declared.State.{State}
+use Rattle.record.specs.Layout.{heightAt, panelAt}
 use Rattle.record.specs.Reading.{manyOf, phaseOf, argumentsIn, textOf, drawingOf, flowOf, refusalsOf, slotOf, stripOf, serialOf, backlightOf, panelOf}
 use Rattle.record.specs.Writing.{low, high, manyBytes, gatheringBytes, dataBytes, uploadBytes, textBytes, otherBytes, phaseBytes, portBytes}
 use Rattle.record.specs.Writing.{slotBytes, stripBytes, lastBytes, panelBytes, encodeOf}
@@ -103,34 +104,40 @@ module _ (q : Panel) (b : length (q .bars) ≡ 16) (t : length (q .strips) ≡ 8
   panel-back = rw (bars-back, strips-back, serial-back, contrast-back, backlight-back)
 
 module _ (s : State) (z : Sized s) where
+  abbrev behind : List ℕ
+  behind = s .height ∷ panelBytes (s .panel)
+
   flat : encodeOf s ≡ gatheringBytes (s .port .line .phase)
-      ++ (s .port .line .args ++ (dataBytes (s .port .line .phase) ++ (uploadBytes (s .port .line .phase) ++ (textBytes (s .port .text) ++ (otherBytes (s .port) ++ panelBytes (s .panel))))))
+      ++ (s .port .line .args ++ (dataBytes (s .port .line .phase) ++ (uploadBytes (s .port .line .phase) ++ (textBytes (s .port .text) ++ (otherBytes (s .port) ++ behind)))))
   unfolding encodeOf portBytes phaseBytes
   flat = simp append-assoc
 
-  at-arguments : drop 3 (encodeOf s) ≡ s .port .line .args ++ (dataBytes (s .port .line .phase) ++ (uploadBytes (s .port .line .phase) ++ (textBytes (s .port .text) ++ (otherBytes (s .port) ++ panelBytes (s .panel)))))
+  at-arguments : drop 3 (encodeOf s) ≡ s .port .line .args ++ (dataBytes (s .port .line .phase) ++ (uploadBytes (s .port .line .phase) ++ (textBytes (s .port .text) ++ (otherBytes (s .port) ++ behind))))
   at-arguments = next (encodeOf s) (gatheringBytes (s .port .line .phase)) _ 0 3 flat (length-gathering (s .port .line .phase))
 
-  at-data : drop 9 (encodeOf s) ≡ dataBytes (s .port .line .phase) ++ (uploadBytes (s .port .line .phase) ++ (textBytes (s .port .text) ++ (otherBytes (s .port) ++ panelBytes (s .panel))))
+  at-data : drop 9 (encodeOf s) ≡ dataBytes (s .port .line .phase) ++ (uploadBytes (s .port .line .phase) ++ (textBytes (s .port .text) ++ (otherBytes (s .port) ++ behind)))
   at-data = next (encodeOf s) (s .port .line .args) _ 3 6 at-arguments (z .args)
 
-  at-upload : drop 15 (encodeOf s) ≡ uploadBytes (s .port .line .phase) ++ (textBytes (s .port .text) ++ (otherBytes (s .port) ++ panelBytes (s .panel)))
+  at-upload : drop 15 (encodeOf s) ≡ uploadBytes (s .port .line .phase) ++ (textBytes (s .port .text) ++ (otherBytes (s .port) ++ behind))
   at-upload = next (encodeOf s) (dataBytes (s .port .line .phase)) _ 9 6 at-data (length-data (s .port .line .phase))
 
-  at-text : drop 23 (encodeOf s) ≡ textBytes (s .port .text) ++ (otherBytes (s .port) ++ panelBytes (s .panel))
+  at-text : drop 23 (encodeOf s) ≡ textBytes (s .port .text) ++ (otherBytes (s .port) ++ behind)
   at-text = next (encodeOf s) (uploadBytes (s .port .line .phase)) _ 15 8 at-upload (length-upload (s .port .line .phase))
 
-  at-drawing : drop 34 (encodeOf s) ≡ otherBytes (s .port) ++ panelBytes (s .panel)
+  at-drawing : drop 34 (encodeOf s) ≡ otherBytes (s .port) ++ behind
   at-drawing = next (encodeOf s) (textBytes (s .port .text)) _ 23 11 at-text refl
 
-  at-flow : drop 37 (encodeOf s) ≡ drop 3 (otherBytes (s .port)) ++ panelBytes (s .panel)
+  at-flow : drop 37 (encodeOf s) ≡ drop 3 (otherBytes (s .port)) ++ behind
   at-flow = sym (drop-drop 3 34 (encodeOf s)) ∙ ap (drop 3) at-drawing
 
-  at-refusals : drop 40 (encodeOf s) ≡ drop 6 (otherBytes (s .port)) ++ panelBytes (s .panel)
+  at-refusals : drop 40 (encodeOf s) ≡ drop 6 (otherBytes (s .port)) ++ behind
   at-refusals = sym (drop-drop 6 34 (encodeOf s)) ∙ ap (drop 6) at-drawing
 
-  at-panel : drop 43 (encodeOf s) ≡ panelBytes (s .panel)
-  at-panel = next (encodeOf s) (otherBytes (s .port)) _ 34 9 at-drawing refl
+  at-height : drop heightAt (encodeOf s) ≡ behind
+  at-height = next (encodeOf s) (otherBytes (s .port)) _ 34 9 at-drawing refl
+
+  at-panel : drop panelAt (encodeOf s) ≡ panelBytes (s .panel)
+  at-panel = sym (drop-drop 1 heightAt (encodeOf s)) ∙ ap (drop 1) at-height
 
   -- ---- and is read there
 
@@ -141,7 +148,7 @@ module _ (s : State) (z : Sized s) where
   arguments-read = ap argumentsIn at-arguments ∙ arguments-back (s .port .line .args) _ (z .args)
 
   pub text-read : textOf (drop 23 (encodeOf s)) ≡ s .port .text
-  text-read = ap textOf at-text ∙ text-back (s .port .text) (otherBytes (s .port) ++ panelBytes (s .panel))
+  text-read = ap textOf at-text ∙ text-back (s .port .text) (otherBytes (s .port) ++ behind)
 
   pub drawing-read : drawingOf (drop 34 (encodeOf s)) ≡ s .port .drawing
   drawing-read = ap drawingOf at-drawing ∙ rw (bit-back (s .port .drawing .colour .black))
@@ -152,5 +159,8 @@ module _ (s : State) (z : Sized s) where
   pub refusals-read : refusalsOf (drop 40 (encodeOf s)) ≡ s .port .refusals
   refusals-read = ap refusalsOf at-refusals ∙ rw (pair-back (s .port .refusals .count))
 
-  pub panel-read : panelOf (drop 43 (encodeOf s)) ≡ s .panel
+  pub height-read : at (encodeOf s) heightAt ≡ s .height
+  height-read = sym (getD-drop heightAt (encodeOf s) 0 0) ∙ ap (λ (l : List ℕ). at l 0) at-height
+
+  pub panel-read : panelOf (drop panelAt (encodeOf s)) ≡ s .panel
   panel-read = ap panelOf at-panel ∙ panel-back (s .panel) (z .bars) (z .strips)

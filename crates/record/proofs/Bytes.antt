@@ -18,6 +18,7 @@ use Rattle.state.specs.declared.Panel.{Panel}
 use Rattle.state.specs.declared.State.{State}
 use Rattle.state.specs.State.{noBar, noStrip}
 use Rattle.state.specs.Fits.{PhaseFits, TextFits, PortFits, BarFits, StripFits, PanelFits, Fits}
+use Rattle.record.specs.Layout.{heightAt, panelAt}
 use Rattle.record.specs.Reading.{manyOf, pairAt, inlineOf, uploadOf, phaseOf, argumentsIn, textOf, slotOf, stripOf, portOf, panelOf, decodeOf}
 use Rattle.record.specs.Writing.{low, high, manyBytes, gatheringBytes, dataBytes, uploadBytes, textBytes, otherBytes, phaseBytes, portBytes}
 use Rattle.record.specs.Writing.{slotBytes, stripBytes, lastBytes, panelBytes, encodeOf}
@@ -109,7 +110,7 @@ panel-fits l b =
 
 pub decoded-fits : (r : List ℕ) → Bytes r → Fits (decodeOf r)
 unfolding decodeOf
-decoded-fits r b = record { port = port-fits r b; panel = panel-fits (drop 43 r) (bytes-drop 43 r b) }
+decoded-fits r b = record { height = b heightAt; port = port-fits r b; panel = panel-fits (drop panelAt r) (bytes-drop panelAt r b) }
 
 -- ---- writing
 
@@ -192,5 +193,5 @@ panel-written q f =
 pub encoded-bytes : (s : State) → Fits s → Bytes (encodeOf s)
 unfolding encodeOf
 encoded-bytes s f =
-    each-bytes (portBytes (s .port) ++ panelBytes (s .panel))
-    (each-append (portBytes (s .port)) (panelBytes (s .panel)) (port-written (s .port) (f .port)) (panel-written (s .panel) (f .panel)))
+    each-bytes (portBytes (s .port) ++ (s .height ∷ panelBytes (s .panel)))
+    (each-append (portBytes (s .port)) (s .height ∷ panelBytes (s .panel)) (port-written (s .port) (f .port)) (f .height, panel-written (s .panel) (f .panel)))

@@ -1,21 +1,24 @@
 -- A record is accepted exactly when each of its parts is.
 -- Assumes nothing.
 use mathlib.Core.Path.{_≡_, refl, sym, ap, _∙_}
-use mathlib.Core.Bool.{Bool, true, false, _&&_, _||_, and-assoc, and-true, and-false}
+use mathlib.Core.Bool.{Bool, true, false, not, _&&_, _||_, and-assoc, and-true, and-false}
 use mathlib.Core.List.{List, _∷_, _++_}
 use Prim.Native.Nat.{ℕ, zero, suc, _+_}
 use native.Mathlib.Omega.{arith}
 use lib.Dec.{eqb, ltb}
 use lib.ListN.{length, drop, replicate}
 use lib.Seq.{drop-drop, getD-drop}
-use borrow.Author.Tests.{eq-eqb, ne-eqb}
+use borrow.Author.Tests.{eq-eqb, ne-eqb, eqb-true, not-true, not-false}
+use Rattle.canvas.specs.Sizes.{isHeight}
 use Rattle.queue.specs.Record.{at, bit, bytesFrom}
 use Rattle.state.specs.Soundness.{every, soundPhase, soundText, soundPort, thresholdsFit, soundBar, soundStrip, soundPanel, soundState}
 use Rattle.state.specs.Canonical.{canonicalPhase, canonicalArguments, canonicalPort, canonicalBar, canonicalStrip, canonicalSerial, canonicalPanel, canonicalState}
-use Rattle.record.specs.Reading.{manyOf, flagAt, phaseOf, argumentsIn, textOf, flowOf, portOf, slotOf, stripOf, panelOf, decodeOf}
+use Rattle.record.specs.Layout.{portSize, heightAt, panelAt, panelStrips, panelSerial, panelBacklight, stripsAt, serialAt, backlightAt, recordSize}
+use Rattle.record.specs.Reading.{manyOf, flagAt, phaseOf, argumentsIn, textOf, flowOf, portOf, slotOf, stripOf, panelOf, heightIn, decodeOf}
 use Rattle.record.specs.Writing.{manyBytes, gatheringBytes, dataBytes, uploadBytes, textBytes, otherBytes, phaseBytes, portBytes, slotBytes, stripBytes, lastBytes, panelBytes, encodeOf}
 use Rattle.record.specs.Parts.{stands, clear, everyOf, phaseStands, phaseHolds, textHolds, otherHolds, portHolds, slotHolds, stripHolds, panelHolds}
-use Rattle.record.specs.Record.{sameBytes, soundRecord}
+use Rattle.record.specs.Record.{sameBytes, recognised, soundRecord}
+use Rattle.record.proofs.Same.{both}
 use Rattle.record.proofs.Filling.{length-many}
 use Rattle.record.proofs.Whole.{Sized, length-gathering, length-data, length-phase, length-port, length-bars, length-strips, length-sized}
 use Rattle.record.proofs.Standing.{stands-next, stands-drop, stands-front, stands-read, stands-same}
@@ -32,7 +35,7 @@ panel-strips l = length-many stripOf 5 (drop 112 l) 8
 
 pub decoded-sized : (r : List ℕ) → Sized (decodeOf r)
 unfolding decodeOf portOf
-decoded-sized r = record { args = refl; bars = panel-bars (drop 43 r); strips = panel-strips (drop 43 r) }
+decoded-sized r = record { args = refl; bars = panel-bars (drop panelAt r); strips = panel-strips (drop panelAt r) }
 
 swap : (a b c d : Bool) → ((a && b) && (c && d)) ≡ ((a && c) && (b && d))
 swap true true c d = refl
@@ -152,11 +155,11 @@ module _ (h : ℕ) (l : List ℕ) where
       (stands (manyBytes slotBytes (q .bars)) 0 l) (stands (manyBytes stripBytes (q .strips)) 0 (drop 112 l)) (stands (lastBytes q) 152 l)
       ∙ rw (bars-are, strips-are, last-is)
 
-pub panel-holds : (h : ℕ) (r : List ℕ) (g s f w t : Bool) → g ≡ (everyOf (slotHolds h) 7 (drop 43 r) 16 && everyOf (stripHolds h) 5 (drop 155 r) 8)
-    → s ≡ (eqb (at r 195) 1 || clear 195 3 r) → f ≡ ltb (at r 199) 2 → w ≡ (s && f) → t ≡ (g && w) → t ≡ panelHolds h (drop 43 r)
+pub panel-holds : (h : ℕ) (r : List ℕ) (g s f w t : Bool) → g ≡ (everyOf (slotHolds h) 7 (drop panelAt r) 16 && everyOf (stripHolds h) 5 (drop stripsAt r) 8)
+    → s ≡ (eqb (at r serialAt) 1 || clear serialAt 3 r) → f ≡ ltb (at r backlightAt) 2 → w ≡ (s && f) → t ≡ (g && w) → t ≡ panelHolds h (drop panelAt r)
 panel-holds h r g s f w t eg es ef ew et =
     et
-    ∙ rw (ew, ef, es, eg, panel-is h (drop 43 r), drop-drop 112 43 r, getD-drop 43 r 152 0, getD-drop 43 r 156 0, stands-drop (replicate 3 0) 43 152 r)
+    ∙ rw (ew, ef, es, eg, panel-is h (drop panelAt r), drop-drop panelStrips panelAt r, getD-drop panelAt r panelSerial 0, getD-drop panelAt r panelBacklight 0, stands-drop (replicate 3 0) panelAt panelSerial r)
 
 -- ---- all of it
 
@@ -165,24 +168,50 @@ record-parts : (a b c d e u v : Bool) → ((a && b && c && (d && e)) && (u && v)
 record-parts a b false d e u v = rw (and-false (a && b), and-false a)
 record-parts a b true d e u v = rw (and-true (a && b), and-true a, swap a b d e) (swap (a && d) (b && e) u v)
 
-module _ (h : ℕ) (r : List ℕ) where
-  pub record-size : (length r ≡ 201 → ⊥) → false ≡ soundRecord h r
-  unfolding soundRecord
-  record-size n = rw (ne-eqb (length r) 201 n)
+-- a the length, k the height
+not-known : (a k p q c d s : Bool) → (a && k) ≡ false → false ≡ (a && (k && p && q) && c && d && s)
+not-known true k p q c d s e = rw e
+not-known false k p q c d s e = refl
 
-  written-again : length r ≡ 201 → sameBytes (encodeOf (decodeOf r)) r ≡ (stands (portBytes (portOf r)) 0 r && stands (panelBytes (panelOf (drop 43 r))) 0 (drop 43 r))
+module _ (r : List ℕ) where
+  pub recognised-not : (length r ≡ recordSize → ⊥) → false ≡ recognised r
+  unfolding recognised
+  recognised-not n = rw (ne-eqb (length r) recordSize n)
+
+  pub recognised-is : (h : ℕ) (t : Bool) → length r ≡ recordSize → h ≡ heightIn r → t ≡ isHeight h → t ≡ recognised r
+  unfolding recognised
+  recognised-is h t n eh et = et ∙ rw (eq-eqb (length r) recordSize n, eh)
+
+  pub recognised-long : (k : Bool) → k ≡ recognised r → not k ≡ false → length r ≡ recordSize
+  unfolding recognised
+  recognised-long k e f = eqb-true (length r) recordSize (both (eqb (length r) recordSize) (isHeight (heightIn r)) (sym e ∙ not-false k f) .0)
+
+  pub not-recognised : (t : Bool) → t ≡ recognised r → not t ≡ true → false ≡ soundRecord r
+  unfolding soundRecord soundState recognised decodeOf
+  not-recognised t e f = not-known (eqb (length r) recordSize) (isHeight (heightIn r)) _ _ _ _ _ (sym e ∙ not-true t f)
+
+  -- the height stands where it was read
+  height-stands : (l : List ℕ) → stands (heightIn r ∷ l) heightAt r ≡ stands l panelAt r
+  unfolding stands
+  height-stands l = rw (eq-eqb (heightIn r) (heightIn r) refl)
+
+  written-again : length r ≡ recordSize
+      → sameBytes (encodeOf (decodeOf r)) r ≡ (stands (portBytes (portOf r)) 0 r && stands (panelBytes (panelOf (drop panelAt r))) 0 (drop panelAt r))
   unfolding encodeOf decodeOf
   written-again n =
+      let b = panelBytes (panelOf (drop panelAt r)) in
       stands-same (encodeOf (decodeOf r)) r (length-sized (decodeOf r) (decoded-sized r) ∙ sym n)
-      ∙ stands-next (portBytes (portOf r)) (panelBytes (panelOf (drop 43 r))) 0 43 r (length-port (portOf r) (decoded-sized r .args))
-      ∙ ap (λ (t : Bool). stands (portBytes (portOf r)) 0 r && t) (sym (stands-front (panelBytes (panelOf (drop 43 r))) 43 r))
+      ∙ stands-next (portBytes (portOf r)) (heightIn r ∷ b) 0 portSize r (length-port (portOf r) (decoded-sized r .args))
+      ∙ ap (λ (t : Bool). stands (portBytes (portOf r)) 0 r && t) (height-stands b ∙ sym (stands-front b panelAt r))
 
-  pub record-is : (p q t : Bool) → length r ≡ 201 → p ≡ portHolds r → q ≡ panelHolds h (drop 43 r) → t ≡ (p && q) → t ≡ soundRecord h r
-  unfolding soundRecord decodeOf soundState canonicalState portHolds panelHolds
-  record-is p q t n ep eq et =
+  pub record-is : (k p q t : Bool) (h : ℕ) → k ≡ recognised r → not k ≡ false → p ≡ portHolds r → h ≡ heightIn r → q ≡ panelHolds h (drop panelAt r) → t ≡ (p && q)
+      → t ≡ soundRecord r
+  unfolding soundRecord recognised decodeOf soundState canonicalState portHolds panelHolds
+  record-is k p q t h ek k-is ep eh eq et =
       let a = portOf r in
-      let b = panelOf (drop 43 r) in
-      let m = drop 43 r in
-      et ∙ rw (eq, ep, eq-eqb (length r) 201 n)
-      (sym (ap (λ (x : Bool). soundState h (decodeOf r) && thresholdsFit (a .flow) && canonicalState (decodeOf r) && x) (written-again n)
-      ∙ record-parts (soundPort a) (soundPanel h b) (thresholdsFit (a .flow)) (canonicalPort a) (canonicalPanel b) (stands (portBytes a) 0 r) (stands (panelBytes b) 0 m)))
+      let b = panelOf (drop panelAt r) in
+      let m = drop panelAt r in
+      let known = both (eqb (length r) recordSize) (isHeight (heightIn r)) (sym ek ∙ not-false k k-is) in
+      et ∙ rw (eq, ep, eh, known .0, known .1)
+      (sym (ap (λ (x : Bool). soundPort a && soundPanel (heightIn r) b && thresholdsFit (a .flow) && canonicalState (decodeOf r) && x) (written-again (eqb-true (length r) recordSize (known .0)))
+      ∙ record-parts (soundPort a) (soundPanel (heightIn r) b) (thresholdsFit (a .flow)) (canonicalPort a) (canonicalPanel b) (stands (portBytes a) 0 r) (stands (panelBytes b) 0 m)))

@@ -4,28 +4,31 @@ use mathlib.Core.Path.{_≡_, sym, ap, _∙_}
 use mathlib.Core.Logic.{_↔_}
 use mathlib.Core.Bool.{true, _&&_}
 use mathlib.Core.List.{List}
-use Prim.Native.Nat.{ℕ, _+_, _*_, _<_}
+use Prim.Native.Nat.{ℕ, _+_, _*_}
 use lib.Dec.{eqb}
 use lib.ListN.{length, drop}
 use lib.Seq.{getD-drop}
 use borrow.Author.Tests.{eq-eqb, eqb-true}
+use Rattle.pixels.proofs.Tests.{and-one}
 use Rattle.queue.specs.Record.{at, Bytes}
 use Rattle.queue.specs.declared.Flow.{Flow}
+use Rattle.canvas.specs.Sizes.{isHeight}
+use Rattle.canvas.proofs.Heights.{height-fits}
 use Rattle.state.specs.declared.Refusals.{Refusals}
 use Rattle.state.specs.declared.Panel.{Panel}
 use Rattle.state.specs.declared.State.{State}
 use Rattle.state.specs.State.{startState}
-use Rattle.state.specs.Soundness.{soundState, thresholdsFit}
+use Rattle.state.specs.Soundness.{soundPort, soundState, thresholdsFit}
 use Rattle.state.specs.Canonical.{canonicalState}
 use Rattle.state.specs.Fits.{Fits}
 use Rattle.state.proofs.Start.{start-sound, start-thresholds, start-canonical, start-fits}
-use Rattle.record.specs.Layout.{flowAt, flowFullAt, flowEmptyAt, refusalsAt, lastRefusalAt, panelAt, contrastAt, backlightAt, minutesAt}
-use Rattle.record.specs.Reading.{pairAt, flagAt, portOf, panelOf, decodeOf}
+use Rattle.record.specs.Layout.{flowAt, flowFullAt, flowEmptyAt, refusalsAt, lastRefusalAt, panelAt, contrastAt, backlightAt, minutesAt, heightAt, recordSize}
+use Rattle.record.specs.Reading.{pairAt, flagAt, portOf, panelOf, heightIn, decodeOf}
 use Rattle.record.specs.Writing.{encodeOf}
-use Rattle.record.specs.Record.{encodedIn, sameBytes, soundRecord}
+use Rattle.record.specs.Record.{encodedIn, sameBytes, recognised, soundRecord}
 use Rattle.record.proofs.Same.{both, same-refl, same-equal}
 use Rattle.record.proofs.Whole.{Sized, length-sized, written-whole}
-use Rattle.record.proofs.Back.{phase-read, arguments-read, text-read, drawing-read, flow-read, refusals-read, panel-read}
+use Rattle.record.proofs.Back.{height-read, phase-read, arguments-read, text-read, drawing-read, flow-read, refusals-read, panel-read}
 use Rattle.record.proofs.Bytes.{decoded-fits, encoded-bytes}
 
 pub sized : (s : State) → Fits s → Sized s
@@ -33,14 +36,14 @@ sized s f = record { args = f .port .args .six; bars = f .panel .sixteen; strips
 
 -- ---- what is written
 
-pub length-encode : (s : State) → Fits s → length (encodeOf s) ≡ 201
+pub length-encode : (s : State) → Fits s → length (encodeOf s) ≡ recordSize
 length-encode s f = length-sized s (sized s f)
 
 pub bytes-encode : (s : State) → Fits s → Bytes (encodeOf s)
 bytes-encode s f = encoded-bytes s f
 
 -- in a slice of just that size
-pub encoded-whole : (s : State) (g : List ℕ) → Fits s → length g ≡ 201 → encodedIn s g ≡ encodeOf s
+pub encoded-whole : (s : State) (g : List ℕ) → Fits s → length g ≡ recordSize → encodedIn s g ≡ encodeOf s
 encoded-whole s g f e = written-whole s g (sized s f) e
 
 -- ---- both ways
@@ -51,6 +54,7 @@ unfolding decodeOf portOf
 decode-encode s f =
     let z = sized s f in
     rw (
+      height-read s z,
       phase-read s z,
       arguments-read s z,
       text-read s z,
@@ -60,62 +64,70 @@ decode-encode s f =
       panel-read s z,
     )
 
-pub record Passed (h : ℕ) (r : List ℕ) : Type 0 where
-  pub long : length r ≡ 201
-  pub sound : soundState h (decodeOf r) ≡ true
+pub record Passed (r : List ℕ) : Type 0 where
+  pub long : length r ≡ recordSize
+  pub sound : soundState (decodeOf r) ≡ true
   pub thresholds : thresholdsFit (decodeOf r .port .flow) ≡ true
   pub canonical : canonicalState (decodeOf r) ≡ true
   pub again : encodeOf (decodeOf r) ≡ r
 
-pub passed : (h : ℕ) (r : List ℕ) → soundRecord h r ≡ true → Passed h r
+pub passed : (r : List ℕ) → soundRecord r ≡ true → Passed r
 unfolding soundRecord
-passed h r e =
-    let a = eqb (length r) 201 in
-    let b = soundState h (decodeOf r) in
+passed r e =
+    let a = eqb (length r) recordSize in
+    let b = soundState (decodeOf r) in
     let c = thresholdsFit (decodeOf r .port .flow) in
     let d = canonicalState (decodeOf r) in
     let p = both (a && b && c && d) (sameBytes (encodeOf (decodeOf r)) r) e in
     let q = both (a && b && c) d (p .0) in
     let t = both (a && b) c (q .0) in
     let u = both a b (t .0) in
-    record { long = eqb-true (length r) 201 (u .0); sound = u .1; thresholds = t .1; canonical = q .1; again = same-equal (encodeOf (decodeOf r)) r (p .1) }
+    record { long = eqb-true (length r) recordSize (u .0); sound = u .1; thresholds = t .1; canonical = q .1; again = same-equal (encodeOf (decodeOf r)) r (p .1) }
 
-pub passes : (h : ℕ) (r : List ℕ) → Passed h r → soundRecord h r ≡ true
+pub passes : (r : List ℕ) → Passed r → soundRecord r ≡ true
 unfolding soundRecord
-passes h r p = rw (eq-eqb (length r) 201 (p .long), p .sound, p .thresholds, p .canonical, p .again) (same-refl r)
+passes r p = rw (eq-eqb (length r) recordSize (p .long), p .sound, p .thresholds, p .canonical, p .again) (same-refl r)
 
 -- WRITING WHAT WAS READ
-pub encode-decode : (h : ℕ) (r : List ℕ) → soundRecord h r ≡ true → encodeOf (decodeOf r) ≡ r
-encode-decode h r e = passed h r e .again
+pub encode-decode : (r : List ℕ) → soundRecord r ≡ true → encodeOf (decodeOf r) ≡ r
+encode-decode r e = passed r e .again
+
+-- what is accepted at all is recognised
+pub sound-recognised : (r : List ℕ) → soundRecord r ≡ true → recognised r ≡ true
+unfolding recognised soundState decodeOf
+sound-recognised r e =
+    let p = passed r e in
+    rw (eq-eqb (length r) recordSize (p .long)) (and-one (isHeight (heightIn r)) _ (and-one (isHeight (heightIn r) && soundPort (portOf r)) _ (p .sound)))
 
 -- ---- sound both ways
 
-pub encoded-sound : (h : ℕ) (s : State) → Fits s → soundState h s ≡ true → thresholdsFit (s .port .flow) ≡ true → canonicalState s ≡ true
-    → soundRecord h (encodeOf s) ≡ true
-encoded-sound h s f e t c =
+pub encoded-sound : (s : State) → Fits s → soundState s ≡ true → thresholdsFit (s .port .flow) ≡ true → canonicalState s ≡ true
+    → soundRecord (encodeOf s) ≡ true
+encoded-sound s f e t c =
     let d = decode-encode s f in
-    passes h (encodeOf s) (record {
+    passes (encodeOf s) (record {
       long = length-encode s f;
-      sound = ap (soundState h) d ∙ e;
+      sound = ap soundState d ∙ e;
       thresholds = ap (λ (x : State). thresholdsFit (x .port .flow)) d ∙ t;
       canonical = ap canonicalState d ∙ c;
       again = ap encodeOf d;
     })
 
 -- A RECORD OF BYTES IS ACCEPTED EXACTLY WHEN IT IS THAT OF A SOUND STATE, with thresholds below 80 and canonical
-pub sound-exactly : (h : ℕ) (r : List ℕ) → Bytes r
-    → (soundRecord h r ≡ true) ↔ ((s : State) × Fits s × (soundState h s ≡ true) × (thresholdsFit (s .port .flow) ≡ true) × (canonicalState s ≡ true) × (encodeOf s ≡ r))
-sound-exactly h r b = (
-  λ e. let p = passed h r e in (decodeOf r, decoded-fits r b, p .sound, p .thresholds, p .canonical, p .again),
-  λ w. rw (← w .5) (encoded-sound h (w .0) (w .1) (w .2) (w .3) (w .4)),
+pub sound-exactly : (r : List ℕ) → Bytes r
+    → (soundRecord r ≡ true) ↔ ((s : State) × Fits s × (soundState s ≡ true) × (thresholdsFit (s .port .flow) ≡ true) × (canonicalState s ≡ true) × (encodeOf s ≡ r))
+sound-exactly r b = (
+  λ e. let p = passed r e in (decodeOf r, decoded-fits r b, p .sound, p .thresholds, p .canonical, p .again),
+  λ w. rw (← w .5) (encoded-sound (w .0) (w .1) (w .2) (w .3) (w .4)),
 )
 
 -- ---- the start, and what a board shows
 
-pub start-record : (h : ℕ) → h < 256 → soundRecord h (encodeOf (startState h)) ≡ true
-start-record h l = encoded-sound h (startState h) (start-fits h l) (start-sound h) (start-thresholds h) (start-canonical h)
+pub start-record : (h : ℕ) → isHeight h ≡ true → soundRecord (encodeOf (startState h)) ≡ true
+start-record h k = encoded-sound (startState h) (start-fits h (height-fits h k)) (start-sound h k) (start-thresholds h) (start-canonical h)
 
 pub record Shown (s : State) (r : List ℕ) : Type 0 where
+  pub height : at r heightAt ≡ s .height
   pub contrast : at r contrastAt ≡ s .panel .contrast
   pub backlight : flagAt r backlightAt ≡ s .panel .backlight .on
   pub minutes : at r minutesAt ≡ s .panel .backlight .minutes
@@ -130,21 +142,22 @@ cong-pair e f = rw (e, f)
 
 panel-contrast : (r : List ℕ) → at r contrastAt ≡ panelOf (drop panelAt r) .contrast
 unfolding panelOf
-panel-contrast r = sym (getD-drop 43 r 155 0)
+panel-contrast r = sym (getD-drop panelAt r 155 0)
 
 panel-backlight : (r : List ℕ) → flagAt r backlightAt ≡ panelOf (drop panelAt r) .backlight .on
 unfolding panelOf
-panel-backlight r = sym (ap (λ (n : ℕ). eqb n 1) (getD-drop 156 (drop 43 r) 0 0 ∙ getD-drop 43 r 156 0))
+panel-backlight r = sym (ap (λ (n : ℕ). eqb n 1) (getD-drop 156 (drop panelAt r) 0 0 ∙ getD-drop panelAt r 156 0))
 
 panel-minutes : (r : List ℕ) → at r minutesAt ≡ panelOf (drop panelAt r) .backlight .minutes
 unfolding panelOf
-panel-minutes r = sym (getD-drop 156 (drop 43 r) 1 0 ∙ getD-drop 43 r 157 0)
+panel-minutes r = sym (getD-drop 156 (drop panelAt r) 1 0 ∙ getD-drop panelAt r 157 0)
 
 pub shown : (s : State) → Fits s → Shown s (encodeOf s)
 shown s f =
     let z = sized s f in
     let r = encodeOf s in
     record {
+      height = height-read s z;
       contrast = panel-contrast r ∙ ap (λ (q : Panel). q .contrast) (panel-read s z);
       backlight = panel-backlight r ∙ ap (λ (q : Panel). q .backlight .on) (panel-read s z);
       minutes = panel-minutes r ∙ ap (λ (q : Panel). q .backlight .minutes) (panel-read s z);

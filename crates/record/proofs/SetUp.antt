@@ -15,6 +15,7 @@ use Rattle.queue.specs.Record.{at, bytesFrom}
 use Rattle.state.specs.Soundness.{every, soundCorners, soundSetUp, soundBar, soundStrip}
 use Rattle.state.specs.Canonical.{canonicalBar, canonicalStrip}
 use Rattle.state.specs.State.{barOf}
+use Rattle.record.specs.Layout.{barsAt, stripsAt, serialAt}
 use Rattle.record.specs.Reading.{flagAt, slotOf, stripOf}
 use Rattle.record.specs.Parts.{stands, clear, everyOf, slotHolds, stripHolds}
 use Rattle.record.proofs.Same.{both}
@@ -81,16 +82,16 @@ module _ (h : ℕ) (r : List ℕ) (k : ℕ) where
       let n : k + 5 - k ≡ 5 = omega arith in
       e ∙ rw (strip-is h (drop k r), not-set-up o, n) (sym (stands-front (replicate 5 0) k r))
 
-pub serial-there : (r : List ℕ) → at r 195 ≡ 1 → true ≡ (eqb (at r 195) 1 || clear 195 3 r)
+pub serial-there : (r : List ℕ) → at r serialAt ≡ 1 → true ≡ (eqb (at r serialAt) 1 || clear serialAt 3 r)
 serial-there r e = rw e
 
-pub serial-clear : (r : List ℕ) (t : Bool) → (at r 195 ≡ 1 → ⊥) → t ≡ clear 195 3 r → t ≡ (eqb (at r 195) 1 || clear 195 3 r)
-serial-clear r t o e = e ∙ rw (ne-eqb (at r 195) 1 o)
+pub serial-clear : (r : List ℕ) (t : Bool) → (at r serialAt ≡ 1 → ⊥) → t ≡ clear serialAt 3 r → t ≡ (eqb (at r serialAt) 1 || clear serialAt 3 r)
+serial-clear r t o e = e ∙ rw (ne-eqb (at r serialAt) 1 o)
 
 -- nothing set up
-pub graphs-clear : (h : ℕ) (r : List ℕ) (t : Bool) → t ≡ clear 43 152 r → t ≡ true → true ≡ (everyOf (slotHolds h) 7 (drop 43 r) 16 && everyOf (stripHolds h) 5 (drop 155 r) 8)
+pub graphs-clear : (h : ℕ) (r : List ℕ) (t : Bool) → t ≡ clear barsAt 152 r → t ≡ true → true ≡ (everyOf (slotHolds h) 7 (drop barsAt r) 16 && everyOf (stripHolds h) 5 (drop stripsAt r) 8)
 graphs-clear h r t c e =
-    let p = both (clear 43 112 r) (clear 155 40 r) (sym (c ∙ clear-add 112 40 43 r) ∙ e) in
-    sym (and-yes (everyOf (slotHolds h) 7 (drop 43 r) 16) (everyOf (stripHolds h) 5 (drop 155 r) 8)
-    (every-clear (slotHolds h) 7 (blank-slot h) 16 (drop 43 r) (stands-front (replicate 112 0) 43 r ∙ p .0))
-    (every-clear (stripHolds h) 5 (blank-strip h) 8 (drop 155 r) (stands-front (replicate 40 0) 155 r ∙ p .1)))
+    let p = both (clear barsAt 112 r) (clear stripsAt 40 r) (sym (c ∙ clear-add 112 40 barsAt r) ∙ e) in
+    sym (and-yes (everyOf (slotHolds h) 7 (drop barsAt r) 16) (everyOf (stripHolds h) 5 (drop stripsAt r) 8)
+    (every-clear (slotHolds h) 7 (blank-slot h) 16 (drop barsAt r) (stands-front (replicate 112 0) barsAt r ∙ p .0))
+    (every-clear (stripHolds h) 5 (blank-strip h) 8 (drop stripsAt r) (stands-front (replicate 40 0) stripsAt r ∙ p .1)))

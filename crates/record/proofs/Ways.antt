@@ -23,7 +23,7 @@ use Rattle.state.specs.declared.Panel.{Panel}
 use Rattle.state.specs.State.{lineOf, state}
 use Rattle.record.specs.Layout.{phaseAt, codeAt, gotAt, argumentsAt, inlineAt, uploadAt, textAt, drawingAt, flowAt, refusalsAt, panelAt, barsAt, barSize, panelStrips, stripsAt, stripSize, panelSerial, serialAt, panelContrast, contrastAt, panelBacklight, backlightAt}
 use Rattle.record.specs.Reading.{manyOf, inlineOf, uploadOf, phaseOf, argumentsIn, textOf, drawingOf, flowOf, refusalsOf, portOf}
-use Rattle.record.specs.Reading.{slotOf, stripOf, serialOf, backlightOf, panelOf, decodeOf}
+use Rattle.record.specs.Reading.{slotOf, stripOf, serialOf, backlightOf, panelOf, heightIn, decodeOf}
 use Rattle.record.specs.Writing.{low, high, gatheringBytes, dataBytes, uploadBytes}
 
 -- ---- reading: the tag of the phase, as the code has it
@@ -76,6 +76,6 @@ unfolding panelOf
 panel-is r a b s n l ea eb es en el =
     rw (drop-drop panelStrips panelAt r, drop-drop panelSerial panelAt r, getD-drop panelAt r panelContrast 0, drop-drop panelBacklight panelAt r, ea, eb, es, en, el)
 
-pub state-is : (r : List ℕ) (p : Port) (q : Panel) → p ≡ portOf r → q ≡ panelOf (drop panelAt r) → state p q ≡ decodeOf r
+pub state-is : (r : List ℕ) (h : ℕ) (p : Port) (q : Panel) → h ≡ heightIn r → p ≡ portOf r → q ≡ panelOf (drop panelAt r) → state h p q ≡ decodeOf r
 unfolding decodeOf
-state-is r p q ep eq = rw (ep, eq)
+state-is r h p q eh ep eq = rw (eh, ep, eq)

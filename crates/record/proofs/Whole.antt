@@ -1,7 +1,7 @@
 -- The parts of a record put together: lengths, and what the writing of part after part comes to.
 -- Assumes nothing.
 use mathlib.Core.Path.{_≡_, refl, sym, ap, _∙_}
-use mathlib.Core.List.{List, _++_, append-nil}
+use mathlib.Core.List.{List, [], _∷_, _++_, append-nil}
 use Prim.Native.Nat.{ℕ, _+_}
 use native.Mathlib.Omega.{arith}
 use lib.ListN.{length, take, drop, length-append, drop-of-length-le}
@@ -11,6 +11,7 @@ use Rattle.state.specs.declared.Phase.the-variants.{Idle, Prefix, Gathering, In
 use Rattle.state.specs.declared.Port.{Port}
 use Rattle.state.specs.declared.Panel.{Panel}
 use Rattle.state.specs.declared.State.{State}
+use Rattle.record.specs.Layout.{portSize, heightAt, panelAt, panelSize, barsAt, stripsAt, serialAt, recordSize}
 use Rattle.record.specs.Writing.{manyBytes, gatheringBytes, dataBytes, uploadBytes, textBytes, otherBytes, phaseBytes, portBytes}
 use Rattle.record.specs.Writing.{slotBytes, stripBytes, lastBytes, panelBytes, encodeOf, over}
 use Rattle.record.specs.Record.{encodedIn}
@@ -56,7 +57,7 @@ length-phase p e =
     (part (p .line .args) _ 6 14 e
     (part (dataBytes (p .line .phase)) _ 6 8 (length-data (p .line .phase)) (length-upload (p .line .phase))))
 
-pub length-port : (p : Port) → length (p .line .args) ≡ 6 → length (portBytes p) ≡ 43
+pub length-port : (p : Port) → length (p .line .args) ≡ 6 → length (portBytes p) ≡ portSize
 unfolding portBytes
 length-port p e = part (phaseBytes p) _ 23 20 (length-phase p e) refl
 
@@ -66,13 +67,13 @@ length-bars q e = length-manyBytes slotBytes 7 (λ a. refl) (q .bars) ∙ rw e
 pub length-strips : (q : Panel) → length (q .strips) ≡ 8 → length (manyBytes stripBytes (q .strips)) ≡ 40
 length-strips q e = length-manyBytes stripBytes 5 (λ a. refl) (q .strips) ∙ rw e
 
-pub length-panel : (q : Panel) → length (q .bars) ≡ 16 → length (q .strips) ≡ 8 → length (panelBytes q) ≡ 158
+pub length-panel : (q : Panel) → length (q .bars) ≡ 16 → length (q .strips) ≡ 8 → length (panelBytes q) ≡ panelSize
 unfolding panelBytes
 length-panel q e f = part (manyBytes slotBytes (q .bars)) _ 112 46 (length-bars q e) (part (manyBytes stripBytes (q .strips)) _ 40 6 (length-strips q f) refl)
 
-pub length-sized : (s : State) → Sized s → length (encodeOf s) ≡ 201
+pub length-sized : (s : State) → Sized s → length (encodeOf s) ≡ recordSize
 unfolding encodeOf
-length-sized s z = part (portBytes (s .port)) _ 43 158 (length-port (s .port) (z .args)) (length-panel (s .panel) (z .bars) (z .strips))
+length-sized s z = part (portBytes (s .port)) _ portSize (1 + panelSize) (length-port (s .port) (z .args)) (rw (length-panel (s .panel) (z .bars) (z .strips)))
 
 -- ---- part after part
 
@@ -98,25 +99,29 @@ port-written p g g1 g2 g3 t o s e1 et e2 eo e3 =
     ∙ over-next (textBytes (p .text)) (otherBytes p) 23 11 g1 g2 refl (same-over t _ 23 g1 g2 et e2)
     ∙ sym (same-over o _ 34 g2 g3 eo e3))
 
-pub panel-written : (q : Panel) (g g1 g2 g3 l : List ℕ) → length (q .bars) ≡ 16 → length (q .strips) ≡ 8 → g1 ≡ over (manyBytes slotBytes (q .bars)) 43 g
-    → g2 ≡ over (manyBytes stripBytes (q .strips)) 155 g1 → l ≡ lastBytes q → g3 ≡ over l 195 g2 → g3 ≡ over (panelBytes q) 43 g
+pub panel-written : (q : Panel) (g g1 g2 g3 l : List ℕ) → length (q .bars) ≡ 16 → length (q .strips) ≡ 8 → g1 ≡ over (manyBytes slotBytes (q .bars)) barsAt g
+    → g2 ≡ over (manyBytes stripBytes (q .strips)) stripsAt g1 → l ≡ lastBytes q → g3 ≡ over l serialAt g2 → g3 ≡ over (panelBytes q) barsAt g
 unfolding panelBytes
 panel-written q g g1 g2 g3 l s z e1 e2 el e3 =
-    sym (over-next (manyBytes slotBytes (q .bars)) (manyBytes stripBytes (q .strips) ++ lastBytes q) 43 112 g g1 (length-bars q s) e1
-    ∙ over-next (manyBytes stripBytes (q .strips)) (lastBytes q) 155 40 g1 g2 (length-strips q z) e2
-    ∙ sym (same-over l _ 195 g2 g3 el e3))
+    sym (over-next (manyBytes slotBytes (q .bars)) (manyBytes stripBytes (q .strips) ++ lastBytes q) barsAt 112 g g1 (length-bars q s) e1
+    ∙ over-next (manyBytes stripBytes (q .strips)) (lastBytes q) stripsAt 40 g1 g2 (length-strips q z) e2
+    ∙ sym (same-over l _ serialAt g2 g3 el e3))
 
-all-written : (s : State) (g : List ℕ) → Sized s → over (portBytes (s .port) ++ panelBytes (s .panel)) 0 g ≡ encodedIn s g
+all-written : (s : State) (g : List ℕ) → Sized s → over (portBytes (s .port) ++ (s .height ∷ panelBytes (s .panel))) 0 g ≡ encodedIn s g
 unfolding encodeOf encodedIn
 all-written s g z = over-front (encodeOf s) g ∙ ap (λ (n : ℕ). take (length g) (encodeOf s) ++ drop n g) (length-sized s z)
 
-pub state-written : (s : State) (g g1 g2 : List ℕ) → Sized s → g1 ≡ over (portBytes (s .port)) 0 g → g2 ≡ over (panelBytes (s .panel)) 43 g1 → g2 ≡ encodedIn s g
-state-written s g g1 g2 z e1 e2 =
-    e2 ∙ sym (over-next (portBytes (s .port)) (panelBytes (s .panel)) 0 43 g g1 (length-port (s .port) (z .args)) e1) ∙ all-written s g z
+pub state-written : (s : State) (g g1 g2 g3 : List ℕ) → Sized s → g1 ≡ over (portBytes (s .port)) 0 g → g2 ≡ over (s .height ∷ []) heightAt g1
+    → g3 ≡ over (panelBytes (s .panel)) panelAt g2 → g3 ≡ encodedIn s g
+state-written s g g1 g2 g3 z e1 e2 e3 =
+    e3
+    ∙ sym (over-next (portBytes (s .port)) (s .height ∷ panelBytes (s .panel)) 0 portSize g g1 (length-port (s .port) (z .args)) e1
+    ∙ over-next (s .height ∷ []) (panelBytes (s .panel)) heightAt 1 g1 g2 refl e2)
+    ∙ all-written s g z
 
 -- ---- a slice of just that size
 
-pub written-whole : (s : State) (g : List ℕ) → Sized s → length g ≡ 201 → encodedIn s g ≡ encodeOf s
+pub written-whole : (s : State) (g : List ℕ) → Sized s → length g ≡ recordSize → encodedIn s g ≡ encodeOf s
 unfolding encodedIn
 written-whole s g z e =
-    rw (take-all (length g) (encodeOf s) (omega (arith, length-sized s z)), drop-of-length-le g {i = 201} (omega arith)) (append-nil (encodeOf s))
+    rw (take-all (length g) (encodeOf s) (omega (arith, length-sized s z)), drop-of-length-le g {i = recordSize} (omega arith)) (append-nil (encodeOf s))

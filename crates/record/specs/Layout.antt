@@ -50,9 +50,17 @@ refusalsAt = 40
 abbrev pub lastRefusalAt : ℕ
 lastRefusalAt = 42
 
--- what follows belongs to the display, what stands in front of it to one line
+-- so many bytes belong to one line
+abbrev pub portSize : ℕ
+portSize = 43
+
+-- the framebuffer's height, in rows
+abbrev pub heightAt : ℕ
+heightAt = portSize
+
+-- what follows belongs to the display
 abbrev pub panelAt : ℕ
-panelAt = 43
+panelAt = heightAt + 1
 
 abbrev pub panelSize : ℕ
 panelSize = 158

@@ -21,7 +21,7 @@ use Rattle.state.specs.declared.Backlight.{Backlight}
 use Rattle.state.specs.declared.Panel.{Panel}
 use Rattle.state.specs.declared.State.{State}
 use Rattle.state.specs.State.{lineOf, barOf, barSlot, strip, state}
-use Rattle.record.specs.Layout.{phaseAt, codeAt, gotAt, argumentsAt, inlineAt, uploadAt, textAt, drawingAt, flowAt, refusalsAt, panelAt, panelBars, barSize, panelStrips, stripSize, panelSerial, panelContrast, panelBacklight}
+use Rattle.record.specs.Layout.{phaseAt, codeAt, gotAt, argumentsAt, inlineAt, uploadAt, textAt, drawingAt, flowAt, refusalsAt, heightAt, panelAt, panelBars, barSize, panelStrips, stripSize, panelSerial, panelContrast, panelBacklight}
 
 -- a number of two bytes, low byte first
 abbrev pub pairAt : List ℕ → ℕ → ℕ
@@ -115,5 +115,10 @@ panelOf l =
       backlight = backlightOf (drop panelBacklight l);
     }
 
+-- ---- the whole
+
+abbrev pub heightIn : List ℕ → ℕ
+heightIn r = at r heightAt
+
 unfoldable pub decodeOf : List ℕ → State
-decodeOf r = state (portOf r) (panelOf (drop panelAt r))
+decodeOf r = state (heightIn r) (portOf r) (panelOf (drop panelAt r))

@@ -80,8 +80,10 @@ lastBytes q = bit (q .serial .on) ∷ q .serial .a ∷ q .serial .b ∷ q .contr
 unfoldable pub panelBytes : Panel → List ℕ
 panelBytes q = manyBytes slotBytes (q .bars) ++ (manyBytes stripBytes (q .strips) ++ lastBytes q)
 
+-- ---- the whole
+
 unfoldable pub encodeOf : State → List ℕ
-encodeOf s = portBytes (s .port) ++ panelBytes (s .panel)
+encodeOf s = portBytes (s .port) ++ (s .height ∷ panelBytes (s .panel))
 
 -- ---- l written over g from index k on, as far as g goes
 

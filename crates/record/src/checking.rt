@@ -33,7 +33,7 @@ ghost use Prim.Native.Nat.{_+_, _-_, _<_, _≤_};
 ghost use lib.Dec.{eqb, ltb};
 ghost use lib.ListN.{length, drop};
 ghost use Rattle.queue.specs.Record.{at};
-ghost use Rattle.record.specs.Layout.{phaseAt, panelAt, barsAt, barSize, stripsAt, stripSize, serialAt};
+ghost use Rattle.record.specs.Layout.{phaseAt, panelAt, barsAt, barSize, stripsAt, stripSize, serialAt, recordSize};
 ghost use Rattle.record.specs.Reading.{pairAt};
 ghost use Rattle.record.specs.Parts.{clear, everyOf, phaseHolds, textHolds, otherHolds, portHolds, slotHolds, stripHolds, panelHolds};
 
@@ -78,7 +78,7 @@ fn is_clear(r: &[u8], from: usize, to: usize) -> bool
 }
 
 fn is_gathering_phase(r: &[u8]) -> bool
-    requires { ⌜ (length (now r) ≡ 201) × (at (now r) phaseAt ≡ 2) ⌝ }
+    requires { ⌜ (length (now r) ≡ recordSize) × (at (now r) phaseAt ≡ 2) ⌝ }
     ensures { λ b. ⌜ b ≡ phaseHolds (now (r .entry)) ⌝ }
 {
     let got = r[GOT];
@@ -88,7 +88,7 @@ fn is_gathering_phase(r: &[u8]) -> bool
 }
 
 fn is_inline_phase(r: &[u8]) -> bool
-    requires { ⌜ (length (now r) ≡ 201) × (at (now r) phaseAt ≡ 3) ⌝ }
+    requires { ⌜ (length (now r) ≡ recordSize) × (at (now r) phaseAt ≡ 3) ⌝ }
     ensures { λ b. ⌜ b ≡ phaseHolds (now (r .entry)) ⌝ }
 {
     let done = pair_at(r, INLINE + 4);
@@ -98,7 +98,7 @@ fn is_inline_phase(r: &[u8]) -> bool
 }
 
 fn is_upload_phase(r: &[u8]) -> bool
-    requires { ⌜ (length (now r) ≡ 201) × (at (now r) phaseAt ≡ 4) ⌝ }
+    requires { ⌜ (length (now r) ≡ recordSize) × (at (now r) phaseAt ≡ 4) ⌝ }
     ensures { λ b. ⌜ b ≡ phaseHolds (now (r .entry)) ⌝ }
 {
     let size = pair_at(r, UPLOAD + 2);
@@ -111,7 +111,7 @@ fn is_upload_phase(r: &[u8]) -> bool
 }
 
 fn is_phase(r: &[u8]) -> bool
-    requires { ⌜ length (now r) ≡ 201 ⌝ }
+    requires { ⌜ length (now r) ≡ recordSize ⌝ }
     ensures { λ b. ⌜ b ≡ phaseHolds (now (r .entry)) ⌝ }
 {
     let tag = r[PHASE];
@@ -132,7 +132,7 @@ fn is_phase(r: &[u8]) -> bool
 
 // The row of the text point is a byte.
 fn is_text(r: &[u8]) -> bool
-    requires { ⌜ length (now r) ≡ 201 ⌝ }
+    requires { ⌜ length (now r) ≡ recordSize ⌝ }
     ensures { λ b. ⌜ b ≡ textHolds (now (r .entry)) ⌝ }
 {
     let flags = both(is_flag(r, TEXT + 9), is_flag(r, TEXT + 10));
@@ -141,7 +141,7 @@ fn is_text(r: &[u8]) -> bool
 
 // Drawing, flow, refusals.
 fn are_others(r: &[u8]) -> bool
-    requires { ⌜ length (now r) ≡ 201 ⌝ }
+    requires { ⌜ length (now r) ≡ recordSize ⌝ }
     ensures { λ b. ⌜ b ≡ otherHolds (now (r .entry)) ⌝ }
 {
     let flags = both(is_flag(r, DRAWING), is_flag(r, FLOW));
@@ -149,7 +149,7 @@ fn are_others(r: &[u8]) -> bool
 }
 
 pub fn is_port(r: &[u8]) -> bool
-    requires { ⌜ length (now r) ≡ 201 ⌝ }
+    requires { ⌜ length (now r) ≡ recordSize ⌝ }
     ensures { λ b. ⌜ b ≡ portHolds (now (r .entry)) ⌝ }
 {
     both(is_phase(r), both(is_text(r), are_others(r)))
@@ -174,7 +174,7 @@ fn is_bar(r: &[u8], k: usize, height: u8) -> bool
 }
 
 fn are_bars(r: &[u8], height: u8) -> bool
-    requires { ⌜ length (now r) ≡ 201 ⌝ }
+    requires { ⌜ length (now r) ≡ recordSize ⌝ }
     ensures { λ b. ⌜ b ≡ everyOf (slotHolds height) barSize (drop barsAt (now (r .entry))) 16 ⌝ }
 {
     let mut i = 0;
@@ -198,7 +198,7 @@ fn is_strip(r: &[u8], k: usize, height: u8) -> bool
 }
 
 fn are_strips(r: &[u8], height: u8) -> bool
-    requires { ⌜ length (now r) ≡ 201 ⌝ }
+    requires { ⌜ length (now r) ≡ recordSize ⌝ }
     ensures { λ b. ⌜ b ≡ everyOf (stripHolds height) stripSize (drop stripsAt (now (r .entry))) 8 ⌝ }
 {
     let mut i = 0;
@@ -212,7 +212,7 @@ fn are_strips(r: &[u8], height: u8) -> bool
 }
 
 fn is_serial(r: &[u8]) -> bool
-    requires { ⌜ length (now r) ≡ 201 ⌝ }
+    requires { ⌜ length (now r) ≡ recordSize ⌝ }
     ensures { λ b. ⌜ b ≡ (eqb (at (now (r .entry)) serialAt) 1 || clear serialAt 3 (now (r .entry))) ⌝ }
 {
     if r[SERIAL] == 1 {
@@ -223,7 +223,7 @@ fn is_serial(r: &[u8]) -> bool
 
 // Where nothing is set up, that is told many bytes at a time.
 fn are_graphs(r: &[u8], height: u8) -> bool
-    requires { ⌜ length (now r) ≡ 201 ⌝ }
+    requires { ⌜ length (now r) ≡ recordSize ⌝ }
     ensures { λ b. ⌜ b ≡ (everyOf (slotHolds height) barSize (drop barsAt (now (r .entry))) 16 && everyOf (stripHolds height) stripSize (drop stripsAt (now (r .entry))) 8) ⌝ }
 {
     if is_clear(r, FIRST_BAR, SERIAL) {
@@ -233,7 +233,7 @@ fn are_graphs(r: &[u8], height: u8) -> bool
 }
 
 pub fn is_panel(r: &[u8], height: u8) -> bool
-    requires { ⌜ length (now r) ≡ 201 ⌝ }
+    requires { ⌜ length (now r) ≡ recordSize ⌝ }
     ensures { λ b. ⌜ b ≡ panelHolds height (drop panelAt (now (r .entry))) ⌝ }
 {
     let last = both(is_serial(r), is_flag(r, BACKLIGHT));

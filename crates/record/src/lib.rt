@@ -1,21 +1,24 @@
-// The state as the record of 201 bytes that a caller keeps.
+// The state as the record of 202 bytes that a caller keeps.
 mod checking;
 mod reading;
 mod writing;
 
+use canvas::is_height;
 use checking::both;
 use checking::is_panel;
 use checking::is_port;
 use queue::Flow;
+use reading::byte_at;
 pub use reading::decode_port;
 use reading::flow_of;
 use reading::panel_of;
 use state::State;
+use writing::encode_height;
 use writing::encode_panel;
 pub use writing::encode_port;
 ghost use mathlib.Core.Path.{_≡_};
-ghost use Rattle.record.specs.Reading.{decodeOf};
-ghost use Rattle.record.specs.Record.{encodedIn, soundRecord};
+ghost use Rattle.record.specs.Reading.{heightIn, decodeOf};
+ghost use Rattle.record.specs.Record.{encodedIn, recognised, soundRecord};
 
 // Where the parts stand. The phase: 0 idle, 1 prefix, 2 gathering, 3 in line, 4 upload.
 pub const PHASE: usize = 0;
@@ -52,38 +55,49 @@ pub const REFUSAL_COUNT: usize = 40;
 
 pub const LAST_REFUSAL: usize = 42;
 
+// The framebuffer's height, in rows.
+pub const HEIGHT: usize = 43;
+
 // From here on what belongs to the display.
-pub const PANEL: usize = 43;
+pub const PANEL: usize = 44;
 
 // Sixteen bars: on, kind, x1, y1, x2, y2, value.
-pub const FIRST_BAR: usize = 43;
+pub const FIRST_BAR: usize = 44;
 
 pub const BAR_SIZE: usize = 7;
 
 // Eight strips: on, x1, y1, x2, y2.
-pub const FIRST_STRIP: usize = 155;
+pub const FIRST_STRIP: usize = 156;
 
 pub const STRIP_SIZE: usize = 5;
 
 // Serial: on, a, b.
-pub const SERIAL: usize = 195;
+pub const SERIAL: usize = 196;
 
-pub const CONTRAST: usize = 198;
+pub const CONTRAST: usize = 199;
 
-pub const BACKLIGHT: usize = 199;
+pub const BACKLIGHT: usize = 200;
 
-pub const MINUTES: usize = 200;
+pub const MINUTES: usize = 201;
 
-pub const RECORD: usize = 201;
+pub const RECORD: usize = 202;
 
 // The state that a record says; a short record goes on with zeros.
 pub fn decode(r: &[u8]) -> State
     ensures { λ s. ⌜ s ≡ decodeOf (now (r .entry)) ⌝ }
 {
     State {
+        height: height_in(r),
         port: decode_port(r),
         panel: panel_of(r),
     }
+}
+
+// Its height alone.
+pub fn height_in(r: &[u8]) -> u8
+    ensures { λ h. ⌜ h ≡ heightIn (now (r .entry)) ⌝ }
+{
+    byte_at(r, HEIGHT)
 }
 
 // Its flow control alone.
@@ -100,15 +114,26 @@ pub fn encode(s: State, out: &mut [u8])
     let port = s.port;
     let panel = s.panel;
     encode_port(port, out);
+    encode_height(s.height, out);
     encode_panel(panel, out);
 }
 
-// Whether it is the record of a sound state, on a framebuffer of `height` rows, with thresholds below 80 and as the layout has it.
-pub fn is_record(r: &[u8], height: u8) -> bool
-    ensures { λ b. ⌜ b ≡ soundRecord height (now (r .entry)) ⌝ }
+// Whether it is of the right length, with a height that there is.
+pub fn is_recognised(r: &[u8]) -> bool
+    ensures { λ b. ⌜ b ≡ recognised (now (r .entry)) ⌝ }
 {
     if r.len() != RECORD {
         return false;
     }
-    both(is_port(r), is_panel(r, height))
+    is_height(height_in(r) as u32)
+}
+
+// Whether it is the record of a sound state, with thresholds below 80 and as the layout has it.
+pub fn is_record(r: &[u8]) -> bool
+    ensures { λ b. ⌜ b ≡ soundRecord (now (r .entry)) ⌝ }
+{
+    if !is_recognised(r) {
+        return false;
+    }
+    both(is_port(r), is_panel(r, height_in(r)))
 }

@@ -37,7 +37,7 @@ ghost use mathlib.Core.Path.{_≡_};
 ghost use Prim.Native.Nat.{_+_, _*_, _<_, _≤_};
 ghost use lib.ListN.{length, drop};
 ghost use Rattle.queue.specs.Record.{at, bytesFrom};
-ghost use Rattle.record.specs.Layout.{argumentsAt, inlineAt, uploadAt, textAt, drawingAt, flowAt, refusalsAt, panelAt, barsAt, barSize, stripsAt, stripSize, serialAt, backlightAt};
+ghost use Rattle.record.specs.Layout.{argumentsAt, inlineAt, uploadAt, textAt, drawingAt, flowAt, refusalsAt, panelAt, barsAt, barSize, stripsAt, stripSize, serialAt, backlightAt, recordSize};
 ghost use Rattle.record.specs.Reading.{manyOf, inlineOf, uploadOf, phaseOf, argumentsIn, textOf, drawingOf, flowOf, refusalsOf, portOf};
 ghost use Rattle.record.specs.Reading.{slotOf, stripOf, serialOf, backlightOf, panelOf};
 
@@ -58,7 +58,7 @@ pub fn pair(low: u8, high: u8) -> u16
 }
 
 // A byte of a record; behind its end there are only zeros.
-fn byte_at(r: &[u8], k: usize) -> u8
+pub fn byte_at(r: &[u8], k: usize) -> u8
     ensures { λ b. ⌜ b ≡ at (now (r .entry)) k ⌝ }
 {
     if k < r.len() { r[k] } else { 0 }
@@ -66,7 +66,7 @@ fn byte_at(r: &[u8], k: usize) -> u8
 
 // As many bytes from k on as the longest part has, of which the record lacks some.
 fn part_across(r: &[u8], k: usize) -> [u8; LONGEST]
-    requires { ⌜ k ≤ 200 ⌝ }
+    requires { ⌜ k < recordSize ⌝ }
     ensures { λ l. ⌜ l ≡ bytesFrom (drop k (now (r .entry))) 0 11 ⌝ }
 {
     let mut l = [0; LONGEST];
@@ -80,7 +80,7 @@ fn part_across(r: &[u8], k: usize) -> [u8; LONGEST]
 
 // The same where it has them all: no place is asked for.
 fn part_inside(r: &[u8], k: usize) -> [u8; LONGEST]
-    requires { ⌜ (k ≤ 200) × (k + 11 ≤ length (now r)) ⌝ }
+    requires { ⌜ (k < recordSize) × (k + 11 ≤ length (now r)) ⌝ }
     ensures { λ l. ⌜ l ≡ bytesFrom (drop k (now (r .entry))) 0 11 ⌝ }
 {
     let mut l = [0; LONGEST];
@@ -93,7 +93,7 @@ fn part_inside(r: &[u8], k: usize) -> [u8; LONGEST]
 }
 
 fn part_at(r: &[u8], k: usize) -> [u8; LONGEST]
-    requires { ⌜ k ≤ 200 ⌝ }
+    requires { ⌜ k < recordSize ⌝ }
     ensures { λ l. ⌜ l ≡ bytesFrom (drop k (now (r .entry))) 0 11 ⌝ }
 {
     if k + LONGEST <= r.len() {
@@ -226,7 +226,7 @@ pub fn decode_port(r: &[u8]) -> Port
 }
 
 fn slot_at(r: &[u8], k: usize) -> BarSlot
-    requires { ⌜ k ≤ 200 ⌝ }
+    requires { ⌜ k < recordSize ⌝ }
     ensures { λ s. ⌜ s ≡ slotOf (drop k (now (r .entry))) ⌝ }
 {
     let l = part_at(r, k);
@@ -258,7 +258,7 @@ fn bars_of(r: &[u8]) -> [BarSlot; BARS]
 }
 
 fn strip_at(r: &[u8], k: usize) -> Strip
-    requires { ⌜ k ≤ 200 ⌝ }
+    requires { ⌜ k < recordSize ⌝ }
     ensures { λ s. ⌜ s ≡ stripOf (drop k (now (r .entry))) ⌝ }
 {
     let l = part_at(r, k);

@@ -4,6 +4,7 @@ use super::DRAWING;
 use super::FIRST_BAR;
 use super::FIRST_STRIP;
 use super::GATHERED;
+use super::HEIGHT;
 use super::INLINE;
 use super::PHASE;
 use super::SERIAL;
@@ -20,10 +21,11 @@ use state::STRIPS;
 use state::Strip;
 use state::Text;
 ghost use mathlib.Core.Path.{_≡_};
-ghost use Prim.Native.Nat.{_-_, _≤_, min};
+ghost use mathlib.Core.List.{[], _∷_};
+ghost use Prim.Native.Nat.{_-_, _≤_, min, _<_};
 ghost use lib.ListN.{length};
 ghost use Rattle.queue.specs.Record.{bit};
-ghost use Rattle.record.specs.Layout.{phaseAt, argumentsAt, barsAt, stripsAt};
+ghost use Rattle.record.specs.Layout.{phaseAt, argumentsAt, heightAt, barsAt, stripsAt, recordSize};
 ghost use Rattle.record.specs.Writing.{low, high, manyBytes, gatheringBytes, dataBytes, uploadBytes, textBytes, otherBytes, phaseBytes, portBytes};
 ghost use Rattle.record.specs.Writing.{slotBytes, stripBytes, lastBytes, panelBytes, over};
 
@@ -57,7 +59,7 @@ fn room(n: usize, length: usize, k: usize) -> usize
 
 // Writes bytes from index k on, as far as there is room.
 fn put(out: &mut [u8], k: usize, l: &[u8])
-    requires { ⌜ k ≤ 200 ⌝ }
+    requires { ⌜ k < recordSize ⌝ }
     ensures { λ _. ⌜ now (out .exit) ≡ over (now (l .entry)) k (now (out .entry)) ⌝ }
 {
     let n = room(l.len(), out.len(), k);
@@ -221,6 +223,12 @@ pub fn encode_port(port: Port, out: &mut [u8])
     put(out, TEXT, &bytes);
     let other = other_bytes(port);
     put(out, DRAWING, &other);
+}
+
+pub fn encode_height(height: u8, out: &mut [u8])
+    ensures { λ _. ⌜ now (out .exit) ≡ over (height ∷ []) heightAt (now (out .entry)) ⌝ }
+{
+    put(out, HEIGHT, &[height]);
 }
 
 fn slot_bytes(s: BarSlot) -> [u8; BAR_SIZE]

@@ -29,7 +29,7 @@ use Rattle.opened_font.specs.declared.Glyph.the-variants
 use Rattle.opened_font.specs.Glyphs.{glyphOf}
 use Rattle.fonts.specs.Bitmaps.{isBitmap, bitmapWidth, bitmapHeight}
 use Rattle.state.specs.State.{barOf, barAt, stripAt, strip}
-use Rattle.rules.specs.World.{World, rows, port, panel}
+use Rattle.rules.specs.World.{World, height, port, panel}
 use Rattle.rules.specs.Fonts.{Opened, opened, shut, openFont}
 use Rattle.rules.specs.Text.{placeX, placeY, Place, place, nowhere, wrapped, fitted, glyphAt, glyphOn, characterIn, character, fontChosen, chooseFont, placeIn, setPlace}
 use Rattle.rules.specs.Drawing.{ordered, clear, drawPixel, drawLine, drawFrame, fillRectangle}
@@ -120,17 +120,17 @@ choice w n (shut r) = tt
 
 pub choose-obeys : (w : World) (n : ℕ) → Obeying w quiet (chooseFont w n)
 unfolding chooseFont
-choose-obeys w n = choice w n (openFont (rows w) (w .store) n)
+choose-obeys w n = choice w n (openFont (height w) (w .store) n)
 
 placing : (w : World) (c r : ℕ) (o : Opened) → Obeying w quiet (placeIn w c r o)
 unfolding placeIn
 placing w c r (shut n) = tt
 placing w c r (opened f) =
-    passes w _ (eqb c 0 || eqb r 0 || leb width (placeX (port w .text) f c) || leb (rows w) (placeY (port w .text) f r)) 17 _ (λ _. fair-quiet w _ refl refl refl refl)
+    passes w _ (eqb c 0 || eqb r 0 || leb width (placeX (port w .text) f c) || leb (height w) (placeY (port w .text) f r)) 17 _ (λ _. fair-quiet w _ refl refl refl refl)
 
 pub place-obeys : (w : World) (c r : ℕ) → Obeying w quiet (setPlace w c r)
 unfolding setPlace
-place-obeys w c r = placing w c r (openFont (rows w) (w .store) (port w .text .font))
+place-obeys w c r = placing w c r (openFont (height w) (w .store) (port w .text .font))
 
 -- the box, or everything where the framebuffer moves up first
 box-painted : (u : ℕ) (t : Bool) (g : List ℕ) (x y v f : ℕ) (bits : List ℕ) → eqb u 0 ≡ t
@@ -149,7 +149,7 @@ glyph-at w f o v t (place x y up) =
 glyph-on : (w : World) (f : List ℕ) (g : Glyph) → Obeying w (glyphEvent w f g) (glyphOn w f g)
 unfolding glyphOn
 glyph-on w f the-variants.Missing = tt
-glyph-on w f (the-variants.At o v t) = glyph-at w f o v t (fitted (rows w) v t (wrapped (port w .text) v t))
+glyph-on w f (the-variants.At o v t) = glyph-at w f o v t (fitted (height w) v t (wrapped (port w .text) v t))
 
 in-font : (w : World) (c : ℕ) (o : Opened) → Obeying w (fontEvent w c o) (characterIn w c o)
 unfolding characterIn
@@ -158,7 +158,7 @@ in-font w c (opened f) = glyph-on w f (glyphOf f c)
 
 pub character-obeys : (w : World) (c : ℕ) → Obeying w (characterEvent w c) (character w c)
 unfolding character characterEvent
-character-obeys w c = in-font w c (openFont (rows w) (w .store) (port w .text .font))
+character-obeys w c = in-font w c (openFont (height w) (w .store) (port w .text .font))
 
 -- ---- files
 

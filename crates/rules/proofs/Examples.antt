@@ -5,7 +5,6 @@ use mathlib.Core.Bool.{true}
 use mathlib.Core.List.{[], _∷_}
 use Prim.Native.Nat.{ℕ}
 use lib.ListN.{replicate}
-use Rattle.pixels.specs.Framebuffer.{height}
 use Rattle.directory.specs.Directory.{hasFile, entriesFrom, readFrom, stepAt}
 use Rattle.directory.specs.Directory as directory
 use Rattle.state.specs.declared.Phase.{Phase}
@@ -28,11 +27,11 @@ blank = world (replicate 240 0) (replicate 1024 0) (startState 8)
 -- THE ORDER OF REFUSALS: everything wrong, then one thing less each time
 pub bar-order : (setUpBar blank 16 4 240 8 0 0 ≡ refused 19 []) × (setUpBar blank 15 4 240 8 0 0 ≡ refused 20 []) × (setUpBar blank 15 3 240 8 0 0 ≡ refused 17 [])
     × (setUpBar blank 15 3 239 7 0 0 ≡ refused 18 [])
-unfolding setUpBar height
+unfolding setUpBar
 bar-order = (refl, refl, refl, refl)
 
 pub strip-order : (setUpStrip blank 8 240 8 0 0 ≡ refused 19 []) × (setUpStrip blank 7 240 8 0 0 ≡ refused 17 []) × (setUpStrip blank 7 5 5 5 7 ≡ refused 18 [])
-unfolding setUpStrip height
+unfolding setUpStrip
 strip-order = (refl, refl, refl)
 
 -- bit 7 is the way, and no part of the number
@@ -86,7 +85,7 @@ abbrev pub valueAfter : ℕ → ℕ → ℕ
 valueAfter kind v = barAt (panel (after (barOn kind) (writeBar (barOn kind) 0 v))) 0 .bar .value
 
 pub values-held : (valueAfter 0 255 ≡ 8) × (valueAfter 1 255 ≡ 10) × (valueAfter 1 9 ≡ 9)
-unfolding setUpBar writeBar after height lengthOf heldTo
+unfolding setUpBar writeBar after lengthOf heldTo
 values-held = (refl, refl, refl)
 
 abbrev pub nextPhase : ℕ → Phase

@@ -6,7 +6,7 @@ use mathlib.Core.Bool.{Bool, true, false}
 use mathlib.Core.List.{List, [], _∷_, _++_}
 use Prim.Native.Nat.{ℕ}
 use lib.ListN.{replicate}
-use Rattle.pixels.specs.Framebuffer.{height, repaint, picture, bytesOf}
+use Rattle.pixels.specs.Framebuffer.{repaint, picture, bytesOf}
 use Rattle.pixels.specs.Regions.{within, some, touches}
 use Rattle.line.specs.Line.{towards, rise, lineX, lineY}
 use Rattle.rectangle.specs.Frame.{frame}
@@ -47,14 +47,14 @@ pub own-writes : (known [] ≡ true)
     × (known (254 ∷ 105 ∷ 0 ∷ 7 ∷ 254 ∷ 105 ∷ 0 ∷ 3 ∷ []) ≡ true)
     × (known (254 ∷ 103 ∷ 0 ∷ 1 ∷ 10 ∷ 2 ∷ 19 ∷ 5 ∷ []) ≡ false)
     × (known (254 ∷ 103 ∷ 0 ∷ 1 ∷ 10 ∷ 2 ∷ 19 ∷ 5 ∷ 254 ∷ 105 ∷ 0 ∷ 7 ∷ []) ≡ false)
-unfolding ledgerAlong step event meant meaning byPhase alone code argument obey commandOf after refuse recorded touched written setUpBar writeBar height repaint picture bytesOf within some touches lengthOf heldTo writeOf
+unfolding ledgerAlong step event meant meaning byPhase alone code argument obey commandOf after refuse recorded touched written setUpBar writeBar repaint picture bytesOf within some touches lengthOf heldTo writeOf
 own-writes = (refl, refl, refl, refl)
 
 -- another bar's set-up; its write, beside it and over it by one column
 pub other-bars : (known (254 ∷ 103 ∷ 1 ∷ 0 ∷ 19 ∷ 2 ∷ 29 ∷ 7 ∷ []) ≡ true)
     × (known (254 ∷ 103 ∷ 1 ∷ 0 ∷ 20 ∷ 2 ∷ 29 ∷ 7 ∷ 254 ∷ 105 ∷ 1 ∷ 9 ∷ []) ≡ true)
     × (known (254 ∷ 103 ∷ 1 ∷ 0 ∷ 19 ∷ 2 ∷ 29 ∷ 7 ∷ 254 ∷ 105 ∷ 1 ∷ 9 ∷ []) ≡ false)
-unfolding ledgerAlong step event meant meaning byPhase alone code argument obey commandOf after refuse recorded touched written setUpBar writeBar height repaint picture bytesOf within some touches lengthOf heldTo writeOf
+unfolding ledgerAlong step event meant meaning byPhase alone code argument obey commandOf after refuse recorded touched written setUpBar writeBar repaint picture bytesOf within some touches lengthOf heldTo writeOf
 other-bars = (refl, refl, refl)
 
 -- refusals: a write to no bar, a set-up with its corners out of order, a frame so, an unknown code
@@ -62,7 +62,7 @@ pub refusals : (known (254 ∷ 105 ∷ 16 ∷ 0 ∷ []) ≡ true)
     × (known (254 ∷ 103 ∷ 0 ∷ 0 ∷ 19 ∷ 5 ∷ 10 ∷ 2 ∷ []) ≡ true)
     × (known (254 ∷ 114 ∷ 1 ∷ 30 ∷ 7 ∷ 0 ∷ 0 ∷ []) ≡ true)
     × (known (254 ∷ 3 ∷ []) ≡ true)
-unfolding ledgerAlong step event meant meaning byPhase alone code argument obey commandOf after refuse recorded touched written setUpBar writeBar height repaint picture bytesOf within some touches lengthOf heldTo writeOf drawFrame
+unfolding ledgerAlong step event meant meaning byPhase alone code argument obey commandOf after refuse recorded touched written setUpBar writeBar repaint picture bytesOf within some touches lengthOf heldTo writeOf drawFrame
 refusals = (refl, refl, refl, refl)
 
 -- what paints nothing: 254 alone, a code, arguments before the last one, settings, the text point inside it
@@ -70,62 +70,62 @@ pub quiet-bytes : (known (254 ∷ []) ≡ true)
     × (known (254 ∷ 120 ∷ []) ≡ true)
     × (known (254 ∷ 120 ∷ 1 ∷ 0 ∷ 0 ∷ 239 ∷ []) ≡ true)
     × (known (254 ∷ 99 ∷ 0 ∷ 254 ∷ 80 ∷ 9 ∷ 254 ∷ 121 ∷ 12 ∷ 3 ∷ []) ≡ true)
-unfolding ledgerAlong step event meant meaning byPhase alone code argument obey commandOf after refuse recorded touched written setUpBar writeBar height repaint picture bytesOf within some touches lengthOf heldTo writeOf setColour setContrast
+unfolding ledgerAlong step event meant meaning byPhase alone code argument obey commandOf after refuse recorded touched written setUpBar writeBar repaint picture bytesOf within some touches lengthOf heldTo writeOf setColour setContrast
 quiet-bytes = (refl, refl, refl, refl)
 
 -- an upload, from its code to its last byte
 pub uploads : (known (254 ∷ 94 ∷ 1 ∷ 2 ∷ 0 ∷ []) ≡ true)
     × (known (254 ∷ 94 ∷ 1 ∷ 2 ∷ 0 ∷ 7 ∷ 1 ∷ 7 ∷ 1 ∷ []) ≡ true)
-unfolding ledgerAlong step event meant meaning byPhase alone code argument obey commandOf after refuse recorded touched written setUpBar writeBar height repaint picture bytesOf within some touches lengthOf heldTo writeOf beginUpload uploadData hasFile entriesFrom readFrom stepAt entryAt directory.lengthOf sizesIn appended recordBytes bytesIn
+unfolding ledgerAlong step event meant meaning byPhase alone code argument obey commandOf after refuse recorded touched written setUpBar writeBar repaint picture bytesOf within some touches lengthOf heldTo writeOf beginUpload uploadData hasFile entriesFrom readFrom stepAt entryAt directory.lengthOf sizesIn appended recordBytes bytesIn
 uploads = (refl, refl)
 
 -- a pixel beside it and one inside
 pub pixels : (known (254 ∷ 112 ∷ 20 ∷ 3 ∷ []) ≡ true)
     × (known (254 ∷ 112 ∷ 19 ∷ 3 ∷ []) ≡ false)
-unfolding ledgerAlong step event meant meaning byPhase alone code argument obey commandOf after refuse recorded touched written setUpBar writeBar height repaint picture bytesOf within some touches lengthOf heldTo writeOf drawPixel
+unfolding ledgerAlong step event meant meaning byPhase alone code argument obey commandOf after refuse recorded touched written setUpBar writeBar repaint picture bytesOf within some touches lengthOf heldTo writeOf drawPixel
 pixels = (refl, refl)
 
 -- a line that passes a corner by, and one that cuts it
 pub lines : (known (254 ∷ 108 ∷ 5 ∷ 2 ∷ 10 ∷ 7 ∷ []) ≡ true)
     × (known (254 ∷ 108 ∷ 5 ∷ 2 ∷ 10 ∷ 2 ∷ []) ≡ false)
-unfolding ledgerAlong step event meant meaning byPhase alone code argument obey commandOf after refuse recorded touched written setUpBar writeBar height repaint picture bytesOf within some touches lengthOf heldTo writeOf drawLine towards rise lineX lineY
+unfolding ledgerAlong step event meant meaning byPhase alone code argument obey commandOf after refuse recorded touched written setUpBar writeBar repaint picture bytesOf within some touches lengthOf heldTo writeOf drawLine towards rise lineX lineY
 lines = (refl, refl)
 
 -- a frame around it and one along its edge
 pub frames : (known (254 ∷ 114 ∷ 1 ∷ 9 ∷ 1 ∷ 20 ∷ 6 ∷ []) ≡ true)
     × (known (254 ∷ 114 ∷ 1 ∷ 9 ∷ 1 ∷ 20 ∷ 5 ∷ []) ≡ false)
-unfolding ledgerAlong step event meant meaning byPhase alone code argument obey commandOf after refuse recorded touched written setUpBar writeBar height repaint picture bytesOf within some touches lengthOf heldTo writeOf drawFrame frame
+unfolding ledgerAlong step event meant meaning byPhase alone code argument obey commandOf after refuse recorded touched written setUpBar writeBar repaint picture bytesOf within some touches lengthOf heldTo writeOf drawFrame frame
 frames = (refl, refl)
 
 -- a solid rectangle beside it and one over a corner
 pub solids : (known (254 ∷ 120 ∷ 1 ∷ 0 ∷ 0 ∷ 9 ∷ 7 ∷ []) ≡ true)
     × (known (254 ∷ 120 ∷ 1 ∷ 0 ∷ 0 ∷ 10 ∷ 2 ∷ []) ≡ false)
-unfolding ledgerAlong step event meant meaning byPhase alone code argument obey commandOf after refuse recorded touched written setUpBar writeBar height repaint picture bytesOf within some touches lengthOf heldTo writeOf fillRectangle
+unfolding ledgerAlong step event meant meaning byPhase alone code argument obey commandOf after refuse recorded touched written setUpBar writeBar repaint picture bytesOf within some touches lengthOf heldTo writeOf fillRectangle
 solids = (refl, refl)
 
 -- clear
 pub cleared : (known (254 ∷ 88 ∷ []) ≡ false)
-unfolding ledgerAlong step event meant meaning byPhase alone code argument obey commandOf after refuse recorded touched written setUpBar writeBar height repaint picture bytesOf within some touches lengthOf heldTo writeOf clear
+unfolding ledgerAlong step event meant meaning byPhase alone code argument obey commandOf after refuse recorded touched written setUpBar writeBar repaint picture bytesOf within some touches lengthOf heldTo writeOf clear
 cleared = (refl)
 
 -- a strip set up over it, and shifted beside it and over it
 pub strips : (known (254 ∷ 106 ∷ 0 ∷ 0 ∷ 0 ∷ 30 ∷ 7 ∷ []) ≡ true)
     × (known (254 ∷ 106 ∷ 0 ∷ 20 ∷ 0 ∷ 30 ∷ 7 ∷ 254 ∷ 107 ∷ 0 ∷ []) ≡ true)
     × (known (254 ∷ 106 ∷ 0 ∷ 0 ∷ 0 ∷ 10 ∷ 2 ∷ 254 ∷ 107 ∷ 0 ∷ []) ≡ false)
-unfolding ledgerAlong step event meant meaning byPhase alone code argument obey commandOf after refuse recorded touched written setUpBar writeBar height repaint picture bytesOf within some touches lengthOf heldTo writeOf setUpStrip shiftStrip
+unfolding ledgerAlong step event meant meaning byPhase alone code argument obey commandOf after refuse recorded touched written setUpBar writeBar repaint picture bytesOf within some touches lengthOf heldTo writeOf setUpStrip shiftStrip
 strips = (refl, refl, refl)
 
 -- a saved bitmap beside it and over it; one that is not there
 pub bitmaps : (known (254 ∷ 98 ∷ 5 ∷ 7 ∷ 2 ∷ []) ≡ true)
     × (known (254 ∷ 98 ∷ 5 ∷ 8 ∷ 1 ∷ []) ≡ false)
     × (known (254 ∷ 98 ∷ 6 ∷ []) ≡ true)
-unfolding ledgerAlong step event meant meaning byPhase alone code argument obey commandOf after refuse recorded touched written setUpBar writeBar height repaint picture bytesOf within some touches lengthOf heldTo writeOf bitmapIn bitmapAt showBitmap isBitmap packedBytes hasFile entriesFrom readFrom stepAt entryAt directory.lengthOf findIn
+unfolding ledgerAlong step event meant meaning byPhase alone code argument obey commandOf after refuse recorded touched written setUpBar writeBar repaint picture bytesOf within some touches lengthOf heldTo writeOf bitmapIn bitmapAt showBitmap isBitmap packedBytes hasFile entriesFrom readFrom stepAt entryAt directory.lengthOf findIn
 bitmaps = (refl, refl, refl)
 
 -- data in line beside it; over it, from the fourth corner on
 pub data-in-line : (known (254 ∷ 100 ∷ 0 ∷ 0 ∷ 9 ∷ 7 ∷ 255 ∷ []) ≡ true)
     × (known (254 ∷ 100 ∷ 0 ∷ 0 ∷ 10 ∷ 2 ∷ []) ≡ false)
-unfolding ledgerAlong step event meant meaning byPhase alone code argument obey commandOf after refuse recorded touched written setUpBar writeBar height repaint picture bytesOf within some touches lengthOf heldTo writeOf beginInline inlineData
+unfolding ledgerAlong step event meant meaning byPhase alone code argument obey commandOf after refuse recorded touched written setUpBar writeBar repaint picture bytesOf within some touches lengthOf heldTo writeOf beginInline inlineData
 data-in-line = (refl, refl)
 
 -- a character beside it and on it; one that scrolls; one for which there is no room
@@ -133,5 +133,5 @@ pub characters : (known (254 ∷ 121 ∷ 20 ∷ 0 ∷ 65 ∷ []) ≡ true)
     × (known (254 ∷ 121 ∷ 6 ∷ 1 ∷ 65 ∷ []) ≡ false)
     × (known (254 ∷ 121 ∷ 236 ∷ 0 ∷ 65 ∷ []) ≡ false)
     × (known (254 ∷ 121 ∷ 20 ∷ 2 ∷ 65 ∷ []) ≡ true)
-unfolding ledgerAlong step event meant meaning byPhase alone code argument obey commandOf after refuse recorded touched written setUpBar writeBar height repaint picture bytesOf within some touches lengthOf heldTo writeOf characterEvent character characterIn glyphOn glyphAt openFont glyphOf glyphIn table offsetAt widthAt wrapped fitted
+unfolding ledgerAlong step event meant meaning byPhase alone code argument obey commandOf after refuse recorded touched written setUpBar writeBar repaint picture bytesOf within some touches lengthOf heldTo writeOf characterEvent character characterIn glyphOn glyphAt openFont glyphOf glyphIn table offsetAt widthAt wrapped fitted
 characters = (refl, refl, refl, refl)

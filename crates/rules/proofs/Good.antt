@@ -1,14 +1,14 @@
--- A good world by its parts: what is good of each part that a command puts anew, with the lengths of framebuffer and store beside them; both directions.
+-- A good world by its parts: what is good of each part that a command puts anew, with the height and the length of the store beside them; both directions.
 -- Assumes nothing.
-use mathlib.Core.Path.{_≡_, refl, ap}
+use mathlib.Core.Path.{_≡_, refl}
 use mathlib.Core.Bool.{Bool, true, false}
 use mathlib.Core.List.{List, []}
-use Prim.Native.Nat.{ℕ, _+_, _/_, _≤_, _<_}
+use Prim.Native.Nat.{ℕ, _+_, _≤_, _<_}
 use native.Mathlib.Omega.{arith}
 use lib.Dec.{leb}
 use lib.ListN.{length, getD}
 use borrow.Author.Tests.{leb-true, ltb-true, le-leb, lt-ltb}
-use Rattle.pixels.specs.Framebuffer.{height}
+use Rattle.canvas.specs.Sizes.{isHeight}
 use Rattle.pixels.proofs.Tests.{by-test}
 use Rattle.queue.specs.declared.Flow.{Flow}
 use Rattle.queue.specs.Record.{Bytes}
@@ -27,7 +27,7 @@ use Rattle.state.specs.State.{noBar, noStrip, withPhase, withDrawing, withFlow,
 use Rattle.state.specs.Soundness.{every, soundPhase, soundText, soundPort, soundBar, soundStrip, soundPanel, soundState, thresholdsFit}
 use Rattle.state.specs.Canonical.{canonicalPhase, canonicalArguments, canonicalPort, canonicalBar, canonicalStrip, canonicalSerial, canonicalPanel, canonicalState}
 use Rattle.state.specs.Fits.{PhaseFits, ArgsFit, TextFits, DrawingFits, FlowFits, RefusalsFit, PortFits, BarFits, StripFits, SerialFits, PanelFits}
-use Rattle.rules.specs.World.{World, rows, port, panel, withFramebuffer, withStore, withPort, withPanel, putText, Outcome, done, refused, refuseIf}
+use Rattle.rules.specs.World.{World, height, port, panel, withFramebuffer, withStore, withPort, withPanel, putText, Outcome, done, refused, refuseIf}
 use Rattle.rules.specs.Sound.{Welcome, Good}
 
 -- ---- the parts
@@ -85,17 +85,18 @@ pub record StoreGood (m : ℕ) (s : List ℕ) : Type 0 where
   pub valid : validOf s ≡ true
   pub long : length s ≡ m
 
--- n bytes of framebuffer
-pub record FramebufferGood (n : ℕ) (g : List ℕ) : Type 0 where
-  pub bytes : Bytes g
-  pub long : length g ≡ n
+-- n rows
+pub record HeightGood (n h : ℕ) : Type 0 where
+  pub same : h ≡ n
+  pub known : isHeight n ≡ true
+  pub fits : n < 256
 
 pub record Parts (n m : ℕ) (w : World) : Type 0 where
+  pub height : HeightGood n (height w)
   pub port-good : PortGood (port w) (w .store)
-  pub panel-good : PanelGood (n / 30) (panel w)
+  pub panel-good : PanelGood n (panel w)
   pub store : StoreGood m (w .store)
-  pub framebuffer : FramebufferGood n (w .framebuffer)
-  pub low : n / 30 < 256
+  pub framebuffer : Bytes (w .framebuffer)
 
 -- ---- from a good world to its parts
 
@@ -127,17 +128,18 @@ panel-parts h q e k f =
       minutes = f .minutes;
     }
 
-pub parts : {w : World} → Good w → Parts (length (w .framebuffer)) (length (w .store)) w
-unfolding soundState canonicalState height
+pub parts : {w : World} → Good w → Parts (height w) (length (w .store)) w
+unfolding soundState canonicalState
 parts {w} g =
     let s = and-both _ _ (g .sound) in
+    let t = and-both (isHeight (height w)) (soundPort (port w)) (s .0) in
     let k = and-both _ _ (g .canonical) in
     record {
-      port-good = port-parts (port w) (w .store) (s .0) (g .thresholds) (k .0) (g .fits .port) (g .upload);
-      panel-good = panel-parts (rows w) (panel w) (s .1) (k .1) (g .fits .panel);
+      height = record { same = refl; known = t .0; fits = g .fits .height };
+      port-good = port-parts (port w) (w .store) (t .1) (g .thresholds) (k .0) (g .fits .port) (g .upload);
+      panel-good = panel-parts (height w) (panel w) (s .1) (k .1) (g .fits .panel);
       store = record { bytes = g .store .bytes; valid = g .store .valid; long = refl };
-      framebuffer = record { bytes = g .framebuffer .bytes; long = refl };
-      low = g .framebuffer .low;
+      framebuffer = g .framebuffer;
     }
 
 -- ---- and from the parts back
@@ -158,25 +160,22 @@ panel-canonical : {h : ℕ} {q : Panel} → PanelGood h q → canonicalPanel q �
 unfolding canonicalPanel
 panel-canonical g = rw (g .bars .canonical, g .strips .canonical) (g .serial .canonical)
 
-pub rows-are : {n m : ℕ} {w : World} → Parts n m w → rows w ≡ n / 30
-unfolding height
-rows-are p = ap (λ (k : ℕ). k / 30) (p .framebuffer .long)
-
 pub good : {n m : ℕ} {w : World} → Parts n m w → Good w
 unfolding soundState canonicalState
 good {n} {m} {w} p =
     let q = p .port-good in
     let r = p .panel-good in
     record {
-      sound = rw (rows-are p, port-sound q) (panel-sound r);
+      sound = rw (p .height .same, p .height .known, port-sound q) (panel-sound r);
       thresholds = lt-ltb (port w .flow .full + port w .flow .empty) 80 (q .flow .sum);
       canonical = rw (port-canonical q) (panel-canonical r);
       fits = record {
+        height = rw (p .height .same) (p .height .fits);
         port = record { phase = q .phase .fits; args = q .phase .args; text = q .text .fits; drawing = q .drawing; flow = q .flow .fits; refusals = q .refusals };
         panel = record { sixteen = r .bars .long; bars = r .bars .fits; eight = r .strips .long; strips = r .strips .fits; serial = r .serial .fits; contrast = r .contrast; minutes = r .minutes };
       };
       store = record { bytes = p .store .bytes; valid = p .store .valid };
-      framebuffer = record { bytes = p .framebuffer .bytes; low = rw (rows-are p) (p .low) };
+      framebuffer = p .framebuffer;
       upload = q .phase .welcome;
     }
 
@@ -184,13 +183,13 @@ good {n} {m} {w} p =
 
 module _ {n m : ℕ} {w : World} (p : Parts n m w) where
   pub put-port : {q : Port} → PortGood q (w .store) → Parts n m (withPort w q)
-  put-port g = record { port-good = g; panel-good = p .panel-good; store = p .store; framebuffer = p .framebuffer; low = p .low }
+  put-port g = record { port-good = g; panel-good = p .panel-good; store = p .store; framebuffer = p .framebuffer; height = p .height }
 
-  pub put-panel : {q : Panel} → PanelGood (n / 30) q → Parts n m (withPanel w q)
-  put-panel g = record { port-good = p .port-good; panel-good = g; store = p .store; framebuffer = p .framebuffer; low = p .low }
+  pub put-panel : {q : Panel} → PanelGood n q → Parts n m (withPanel w q)
+  put-panel g = record { port-good = p .port-good; panel-good = g; store = p .store; framebuffer = p .framebuffer; height = p .height }
 
-  pub put-framebuffer : {g : List ℕ} → FramebufferGood n g → Parts n m (withFramebuffer w g)
-  put-framebuffer g = record { port-good = p .port-good; panel-good = p .panel-good; store = p .store; framebuffer = g; low = p .low }
+  pub put-framebuffer : {g : List ℕ} → Bytes g → Parts n m (withFramebuffer w g)
+  put-framebuffer g = record { port-good = p .port-good; panel-good = p .panel-good; store = p .store; framebuffer = g; height = p .height }
 
   pub put-text : {t : Text} → TextGood t → Parts n m (putText w t)
   put-text g = let q = p .port-good in put-port (record { phase = q .phase; text = g; drawing = q .drawing; flow = q .flow; refusals = q .refusals })
@@ -207,10 +206,10 @@ module _ {n m : ℕ} {w : World} (p : Parts n m w) where
   pub put-phase : {f : Phase} {a : List ℕ} → PhaseGood f a (w .store) → Parts n m (withPort w (withPhase (port w) f a))
   put-phase g = let q = p .port-good in put-port (record { phase = g; text = q .text; drawing = q .drawing; flow = q .flow; refusals = q .refusals })
 
-  pub put-bars : {l : List BarSlot} → BarsGood (n / 30) l → Parts n m (withPanel w (withBars (panel w) l))
+  pub put-bars : {l : List BarSlot} → BarsGood n l → Parts n m (withPanel w (withBars (panel w) l))
   put-bars g = let q = p .panel-good in put-panel (record { bars = g; strips = q .strips; serial = q .serial; contrast = q .contrast; minutes = q .minutes })
 
-  pub put-strips : {l : List Strip} → StripsGood (n / 30) l → Parts n m (withPanel w (withStrips (panel w) l))
+  pub put-strips : {l : List Strip} → StripsGood n l → Parts n m (withPanel w (withStrips (panel w) l))
   put-strips g = let q = p .panel-good in put-panel (record { bars = q .bars; strips = g; serial = q .serial; contrast = q .contrast; minutes = q .minutes })
 
   -- the store, with the phase as it stands for the new one
@@ -222,7 +221,7 @@ module _ {n m : ℕ} {w : World} (p : Parts n m w) where
         panel-good = p .panel-good;
         store = g;
         framebuffer = p .framebuffer;
-        low = p .low;
+        height = p .height;
       }
 
   -- both at once
@@ -234,7 +233,7 @@ module _ {n m : ℕ} {w : World} (p : Parts n m w) where
         panel-good = p .panel-good;
         store = g;
         framebuffer = p .framebuffer;
-        low = p .low;
+        height = p .height;
       }
 
 -- ---- outcomes

@@ -1,6 +1,6 @@
--- EVERY BYTE KEEPS A GOOD WORLD GOOD, the start is good, and framebuffer and store stay as long as they are.
+-- EVERY BYTE KEEPS A GOOD WORLD GOOD, the start is good, and the height and the lengths of framebuffer and store stay.
 -- Assumes nothing.
-use mathlib.Core.Path.{_≡_, refl, sym, subst}
+use mathlib.Core.Path.{_≡_, refl}
 use mathlib.Core.Bool.{true, false}
 use mathlib.Core.List.{List, [], _∷_}
 use Prim.Native.Nat.{ℕ, suc, _+_, _*_, _≤_, _<_}
@@ -8,7 +8,8 @@ use native.Mathlib.Omega.{arith}
 use lib.Dec.{eqb, ltb}
 use lib.ListN.{length, set}
 use borrow.Author.Tests.{ltb-true, lt-ltb, eqb-false}
-use Rattle.pixels.specs.Framebuffer.{height}
+use Rattle.canvas.specs.Sizes.{isHeight}
+use Rattle.canvas.proofs.Heights.{height-fits}
 use Rattle.pixels.proofs.Tests.{by-test}
 use Rattle.bar_ledger.proofs.Keep.{keeps-out}
 use Rattle.directory.specs.Directory.{validOf}
@@ -18,11 +19,11 @@ use Rattle.state.specs.declared.Command.the-variants.{Unknown, Clear, Home, Set
 use Rattle.state.specs.declared.Phase.{Phase}
 use Rattle.state.specs.declared.Phase.the-variants.{Idle, Prefix, Gathering, Inline, Upload}
 use Rattle.state.specs.State.{startState}
-use Rattle.state.specs.Soundness.{soundPhase, soundState}
+use Rattle.state.specs.Soundness.{soundPhase}
 use Rattle.state.specs.Canonical.{canonicalPhase}
 use Rattle.state.specs.Commands.{commandOf, argumentsOf}
 use Rattle.state.proofs.Start.{start-sound, start-thresholds, start-canonical, start-fits}
-use Rattle.rules.specs.World.{World, world, port, Outcome, done, refused, arg}
+use Rattle.rules.specs.World.{World, world, height, port, Outcome, done, refused, arg}
 use Rattle.rules.specs.Step.{obey, outside, code, noBitmap, argument, alone, byPhase, outcome, refuse, after, step}
 use Rattle.rules.specs.Calls.{run}
 use Rattle.rules.specs.Events.{view, event}
@@ -169,7 +170,10 @@ unfolding run
 good-run w [] g h = g
 good-run w (b ∷ l) g h = good-run (step w b) l (good-step w b g (h 0)) (λ i. h (suc i))
 
--- ---- lengths
+-- ---- height and lengths
+
+pub height-stays : (w : World) (b : ℕ) → Good w → b < 256 → height (step w b) ≡ height w
+height-stays w b g h = parts-step (parts g) b h .height .same
 
 pub framebuffer-length : (w : World) (b : ℕ) → Good w → length (step w b .framebuffer) ≡ length (w .framebuffer)
 framebuffer-length w b g = keeps-out (event w b) (view w) (view (step w b)) (byte-steps w b (g .fits .panel .sixteen) .obeys) .long
@@ -179,16 +183,14 @@ store-length w b g h = parts-step (parts g) b h .store .long
 
 -- ---- the start
 
-pub good-start : (h : ℕ) (g s : List ℕ) → length g ≡ 30 * h → h < 256 → Bytes g → Bytes s → validOf s ≡ true → Good (world g s (startState h))
-unfolding height
-good-start h g s e l b c v =
-    let r : height g ≡ h = omega (arith, e) in
+pub good-start : (h : ℕ) (g s : List ℕ) → isHeight h ≡ true → Bytes g → Bytes s → validOf s ≡ true → Good (world g s (startState h))
+good-start h g s k b c v =
     record {
-      sound = subst (λ (n : ℕ). soundState n (startState h) ≡ true) (sym r) (start-sound h);
+      sound = start-sound h k;
       thresholds = start-thresholds h;
       canonical = start-canonical h;
-      fits = start-fits h l;
+      fits = start-fits h (height-fits h k);
       store = record { bytes = c; valid = v };
-      framebuffer = record { bytes = b; low = rw r l };
+      framebuffer = b;
       upload = tt;
     }

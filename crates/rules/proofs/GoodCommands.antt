@@ -1,13 +1,15 @@
--- Each command on a good world leaves a good one, of as much framebuffer and store: drawing, bars and strips, bitmaps, settings.
+-- Each command on a good world leaves a good one, of the same height and with as much store: drawing, bars and strips, bitmaps, settings.
 -- Assumes nothing.
 use mathlib.Core.Path.{_≡_, refl}
 use mathlib.Core.Bool.{Bool, true, false, not, _&&_}
 use mathlib.Core.List.{List}
-use Prim.Native.Nat.{ℕ, _+_, _%_, _/_, _<_, min}
+use Prim.Native.Nat.{ℕ, _+_, _%_, _<_, min}
 use native.Mathlib.Omega.{arith}
 use lib.Dec.{eqb, leb, ltb}
 use lib.ListN.{take, drop}
 use borrow.Author.Tests.{leb-false, ltb-true, le-leb, lt-ltb, not-false}
+use Rattle.queue.specs.Record.{Bytes}
+use Rattle.pixels.proofs.Painting.{bytes-repaint}
 use Rattle.pixels.specs.Framebuffer.{repaint, width}
 use Rattle.pixels.proofs.Tests.{by-test}
 use Rattle.bar_graph.specs.declared.Bar.{Bar}
@@ -23,14 +25,14 @@ use Rattle.state.specs.Soundness.{soundBar, soundStrip, soundCorners, soundSetU
 use Rattle.state.specs.Canonical.{canonicalBar, canonicalStrip, canonicalSerial}
 use Rattle.state.specs.Fits.{BarFits}
 use Rattle.state.proofs.Every.{every-at}
-use Rattle.rules.specs.World.{World, rows, panel}
+use Rattle.rules.specs.World.{World, height, panel}
 use Rattle.rules.specs.Drawing.{ordered, clear, setColour, drawPixel, drawLine, drawFrame, fillRectangle}
 use Rattle.rules.specs.Bars.{inBounds, apart, setUpBar, writeBar, setUpStrip, shiftStrip}
 use Rattle.rules.specs.Pictures.{bitmapIn, bitmapAt, showBitmap}
 use Rattle.rules.specs.Settings.{flowOn, flowOff, setContrast, backlightOn, backlightOff, setSerial}
-use Rattle.rules.proofs.Good.{FramebufferGood, Parts, rows-are, put-panel, put-framebuffer, put-text, put-drawing, put-flow, put-bars, put-strips, Leaves, passes}
+use Rattle.rules.proofs.Good.{Parts, put-panel, put-framebuffer, put-text, put-drawing, put-flow, put-bars, put-strips, Leaves, passes}
 use Rattle.rules.proofs.GoodLists.{bars-good, strips-good}
-use Rattle.rules.proofs.GoodText.{painted-good, home-good}
+use Rattle.rules.proofs.GoodText.{home-good}
 
 -- ---- bars and strips, from the tests of a set-up
 
@@ -43,7 +45,7 @@ record Inside (h x1 y1 x2 y2 : ℕ) : Type 0 where
   y2-fits : y2 < 256
 
 inside : {n m : ℕ} {w : World} → Parts n m w → (x1 y1 x2 y2 : ℕ) → not (inBounds w x1 y1 x2 y2) ≡ false → not (apart x1 y1 x2 y2) ≡ false
-    → Inside (n / 30) x1 y1 x2 y2
+    → Inside n x1 y1 x2 y2
 inside {n} {m} {w} p x1 y1 x2 y2 h k =
     let a = and-both _ _ (not-false (inBounds w x1 y1 x2 y2) h) in
     let b = and-both _ _ (a .0) in
@@ -51,11 +53,11 @@ inside {n} {m} {w} p x1 y1 x2 y2 h k =
     let x = ltb-true x1 x2 (e .0) in
     let y = ltb-true y1 y2 (e .1) in
     let hx = ltb-true x2 width (and-both (ltb x1 width) (ltb x2 width) (b .0) .1) in
-    let hy = ltb-true y2 (rows w) (a .1) in
-    let r = rows-are p in
-    let l = p .low in
+    let hy = ltb-true y2 (height w) (a .1) in
+    let r = p .height .same in
+    let l = p .height .fits in
     record {
-      framebuffer = rw (e .0, e .1, lt-ltb x2 width hx, lt-ltb y2 (n / 30) (omega arith));
+      framebuffer = rw (e .0, e .1, lt-ltb x2 width hx, lt-ltb y2 n (omega arith));
       low = l;
       x1-fits = omega arith;
       y1-fits = omega arith;
@@ -93,23 +95,20 @@ written-fits : (s : BarSlot) (v : ℕ) → v < 256 → BarFits s → BarFits (ba
 unfolding heldTo
 written-fits s v h f = omega arith
 
-written-framebuffer : {n : ℕ} {g : List ℕ} → FramebufferGood n g → (b : Bar) (v : ℕ) → FramebufferGood n (writeOf b v g)
+written-framebuffer : (g : List ℕ) (b : Bar) (v : ℕ) → Bytes (writeOf b v g)
 unfolding writeOf
-written-framebuffer {n} {g} s b v =
-    by-test (FramebufferGood n) (eqb v 0) _ _ (λ _. painted-good s _)
-    (λ _. by-test (FramebufferGood n) (ltb (b .value) (heldTo b v)) _ _ (λ _. painted-good s _) (λ _. painted-good s _))
+written-framebuffer g b v =
+    by-test Bytes (eqb v 0) _ _ (λ _. bytes-repaint _ _)
+    (λ _. by-test Bytes (ltb (b .value) (heldTo b v)) _ _ (λ _. bytes-repaint _ _) (λ _. bytes-repaint _ _))
 
 -- ---- each command
 
 module _ {n m : ℕ} {w : World} (p : Parts n m w) where
-  paints : (f : ℕ → ℕ → Bool → Bool) → FramebufferGood n (repaint f (w .framebuffer))
-  paints f = painted-good (p .framebuffer) f
-
   -- ---- drawing
 
   pub clear-good : Leaves n m (clear w)
   unfolding clear
-  clear-good = put-text (put-framebuffer p (paints _)) (home-good (p .port-good .text))
+  clear-good = put-text (put-framebuffer p (bytes-repaint _ _)) (home-good (p .port-good .text))
 
   pub colour-good : (c : ℕ) → Leaves n m (setColour w c)
   unfolding setColour
@@ -117,19 +116,19 @@ module _ {n m : ℕ} {w : World} (p : Parts n m w) where
 
   pub pixel-good : (x y : ℕ) → Leaves n m (drawPixel w x y)
   unfolding drawPixel
-  pixel-good x y = put-framebuffer p (paints _)
+  pixel-good x y = put-framebuffer p (bytes-repaint _ _)
 
   pub line-good : (x1 y1 x2 y2 : ℕ) → x2 < 256 → y2 < 256 → Leaves n m (drawLine w x1 y1 x2 y2)
   unfolding drawLine
-  line-good x1 y1 x2 y2 h k = put-drawing (put-framebuffer p (paints _)) (record { x = h; y = k })
+  line-good x1 y1 x2 y2 h k = put-drawing (put-framebuffer p (bytes-repaint _ _)) (record { x = h; y = k })
 
   pub frame-good : (c x1 y1 x2 y2 : ℕ) → Leaves n m (drawFrame w c x1 y1 x2 y2)
   unfolding drawFrame
-  frame-good c x1 y1 x2 y2 = passes n m (not (ordered x1 y1 x2 y2)) 18 _ (omega arith) (λ _. put-framebuffer p (paints _))
+  frame-good c x1 y1 x2 y2 = passes n m (not (ordered x1 y1 x2 y2)) 18 _ (omega arith) (λ _. put-framebuffer p (bytes-repaint _ _))
 
   pub solid-good : (c x1 y1 x2 y2 : ℕ) → Leaves n m (fillRectangle w c x1 y1 x2 y2)
   unfolding fillRectangle
-  solid-good c x1 y1 x2 y2 = passes n m (not (ordered x1 y1 x2 y2)) 18 _ (omega arith) (λ _. put-framebuffer p (paints _))
+  solid-good c x1 y1 x2 y2 = passes n m (not (ordered x1 y1 x2 y2)) 18 _ (omega arith) (λ _. put-framebuffer p (bytes-repaint _ _))
 
   -- ---- bars and strips
 
@@ -140,7 +139,7 @@ module _ {n m : ℕ} {w : World} (p : Parts n m w) where
       passes n m (not (inBounds w x1 y1 x2 y2)) 17 _ (omega arith) (λ ho. passes n m (not (apart x1 y1 x2 y2)) 18 _ (omega arith) (λ ha.
       let q = inside p x1 y1 x2 y2 ho ha in
       let l = leb-false 4 k hk in
-      put-bars p (bars-good (p .panel-good .bars) i (barSlot true (barOf k x1 y1 x2 y2 0)) (set-up-sound (n / 30) k x1 y1 x2 y2 (q .framebuffer) l) (set-up-canonical _) (omega (arith, q)))))))
+      put-bars p (bars-good (p .panel-good .bars) i (barSlot true (barOf k x1 y1 x2 y2 0)) (set-up-sound n k x1 y1 x2 y2 (q .framebuffer) l) (set-up-canonical _) (omega (arith, q)))))))
 
   pub write-good : (i v : ℕ) → v < 256 → Leaves n m (writeBar w i v)
   unfolding writeBar
@@ -148,8 +147,8 @@ module _ {n m : ℕ} {w : World} (p : Parts n m w) where
       passes n m (leb 16 i) 19 _ (omega arith) (λ _. passes n m (not (barAt (panel w) i .on)) 21 _ (omega arith) (λ ho.
       let b = p .panel-good .bars in
       let s = barAt (panel w) i in
-      put-bars (put-framebuffer p (written-framebuffer (p .framebuffer) (s .bar) v)) (bars-good b i (barSlot true (writtenBar (s .bar) v))
-      (written-sound (n / 30) s v (not-false (s .on) ho) (every-at (soundBar (n / 30)) (panel w .bars) i noBar (none-sound (n / 30)) (b .sound)))
+      put-bars (put-framebuffer p (written-framebuffer (w .framebuffer) (s .bar) v)) (bars-good b i (barSlot true (writtenBar (s .bar) v))
+      (written-sound n s v (not-false (s .on) ho) (every-at (soundBar n) (panel w .bars) i noBar (none-sound n) (b .sound)))
       (set-up-canonical _) (written-fits s v h (b .fits i)))))
 
   pub strip-good : (i x1 y1 x2 y2 : ℕ) → Leaves n m (setUpStrip w i x1 y1 x2 y2)
@@ -161,14 +160,14 @@ module _ {n m : ℕ} {w : World} (p : Parts n m w) where
 
   pub shift-good : (b : ℕ) → Leaves n m (shiftStrip w b)
   unfolding shiftStrip
-  shift-good b = passes n m (leb 8 (b % 128)) 19 _ (omega arith) (λ _. passes n m (not (stripAt (panel w) (b % 128) .on)) 21 _ (omega arith) (λ _. put-framebuffer p (paints _)))
+  shift-good b = passes n m (leb 8 (b % 128)) 19 _ (omega arith) (λ _. passes n m (not (stripAt (panel w) (b % 128) .on)) 21 _ (omega arith) (λ _. put-framebuffer p (bytes-repaint _ _)))
 
   -- ---- saved bitmaps
 
   bitmap-at : (t : Found) (x y : ℕ) → Leaves n m (bitmapAt w t x y)
   unfolding bitmapAt bitmapIn
   bitmap-at Nothing x y = omega arith
-  bitmap-at (At q a z) x y = passes n m (not (isBitmap (take z (drop a (w .store))))) 23 _ (omega arith) (λ _. put-framebuffer p (paints _))
+  bitmap-at (At q a z) x y = passes n m (not (isBitmap (take z (drop a (w .store))))) 23 _ (omega arith) (λ _. put-framebuffer p (bytes-repaint _ _))
 
   pub bitmap-good : (i x y : ℕ) → Leaves n m (showBitmap w i x y)
   unfolding showBitmap

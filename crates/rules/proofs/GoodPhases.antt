@@ -9,6 +9,7 @@ use native.Mathlib.Nat.{mul-le-mul}
 use lib.Dec.{eqb, leb, ltb}
 use lib.ListN.{length-set}
 use borrow.Author.Tests.{ltb-true, lt-ltb, eqb-false, not-false}
+use Rattle.pixels.proofs.Painting.{bytes-repaint}
 use Rattle.pixels.proofs.Tests.{by-test}
 use Rattle.bitmap.specs.Bitmaps.{rowBytes}
 use Rattle.directory.specs.Directory.{entries, sizesIn, hasFile}
@@ -21,15 +22,15 @@ use Rattle.state.specs.State.{noArgs, startText}
 use Rattle.state.specs.Soundness.{every, inlineBytes, soundPhase, soundInline}
 use Rattle.state.specs.Canonical.{gathered, canonicalUpload, canonicalPhase}
 use Rattle.state.specs.Fits.{PhaseFits}
-use Rattle.rules.specs.World.{World, rows, port}
+use Rattle.rules.specs.World.{World, height, port}
 use Rattle.rules.specs.Drawing.{ordered}
 use Rattle.rules.specs.Pictures.{beginInline, inlineData}
 use Rattle.rules.specs.Files.{inUse, lacksSpace, beginUpload, confirmed, uploadData, deleteFile, purge}
 use Rattle.rules.specs.Sound.{Welcome}
-use Rattle.rules.proofs.Good.{PhaseGood, TextGood, StoreGood, Parts, rows-are, put-framebuffer, put-text, put-phase, put-store, put-both, Leaves, passes}
+use Rattle.rules.proofs.Good.{PhaseGood, TextGood, StoreGood, Parts, put-framebuffer, put-text, put-phase, put-store, put-both, Leaves, passes}
 use Rattle.rules.proofs.GoodLists.{no-args}
 use Rattle.rules.proofs.GoodStore.{isKind, room, stored-good, appended-good, deleted-good, purged-good}
-use Rattle.rules.proofs.GoodText.{painted-good, font-good}
+use Rattle.rules.proofs.GoodText.{font-good}
 
 -- a phase with no arguments
 pub settled : (f : Phase) (s : List ℕ) → soundPhase f ≡ true → canonicalPhase f ≡ true → gathered f ≡ 0 → PhaseFits f → Welcome f s → PhaseGood f noArgs s
@@ -77,7 +78,7 @@ module _ {n m : ℕ} {w : World} (p : Parts n m w) where
   inline-good x1 y1 x2 y2 d b q =
       let f = q .fits in
       let o = and-both (ordered x1 y1 x2 y2) (ltb d (inlineBytes x1 y1 x2 y2)) (q .sound) .0 in
-      put-phase (put-framebuffer p (painted-good (p .framebuffer) _))
+      put-phase (put-framebuffer p (bytes-repaint _ _))
       (by-test (λ (f : Phase). PhaseGood f noArgs (w .store)) (ltb (d + 1) (inlineBytes x1 y1 x2 y2)) _ _
       (λ h. settled (Inline x1 y1 x2 y2 (d + 1)) (w .store) (rw (o, h)) refl refl
       (f .0, f .1, f .2, f .3, omega (arith, ltb-true (d + 1) (inlineBytes x1 y1 x2 y2) h, inline-few x1 y1 x2 y2 (f .2) (f .3))) tt)
@@ -125,4 +126,4 @@ module _ {n m : ℕ} {w : World} (p : Parts n m w) where
   unfolding purge
   purge-good f a b =
       passes n m (not (eqb a 89 && eqb b 33)) 20 _ (omega arith) (λ _.
-      put-text (put-store p (purged-good (p .store)) (f (purged (w .store)))) (start-text (rows w) (omega (arith, rows-are p, p .low))))
+      put-text (put-store p (purged-good (p .store)) (f (purged (w .store)))) (start-text (height w) (omega (arith, p .height))))

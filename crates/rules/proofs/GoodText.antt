@@ -1,6 +1,5 @@
 -- Text on a good world leaves a good one: the text point, the settings, the font, characters.
 -- Assumes nothing.
-use mathlib.Core.Path.{_∙_}
 use mathlib.Core.Bool.{Bool, _&&_, _||_}
 use mathlib.Core.List.{List}
 use Prim.Native.Nat.{ℕ, _+_, _≤_, _<_}
@@ -8,9 +7,9 @@ use native.Mathlib.Omega.{arith}
 use lib.Dec.{eqb, leb}
 use lib.ListN.{take, drop}
 use borrow.Author.Tests.{leb-true, leb-false}
-use Rattle.pixels.specs.Framebuffer.{repaint, width}
+use Rattle.pixels.specs.Framebuffer.{width}
 use Rattle.pixels.proofs.Tests.{by-test, or-one, or-two}
-use Rattle.pixels.proofs.Painting.{length-repaint, bytes-repaint}
+use Rattle.pixels.proofs.Painting.{bytes-repaint}
 use Rattle.directory.specs.declared.Found.{Found}
 use Rattle.directory.specs.declared.Found.the-variants.{At, Nothing}
 use Rattle.directory.specs.Directory.{findOf}
@@ -21,15 +20,10 @@ use Rattle.opened_font.specs.Glyphs.{glyphOf}
 use Rattle.file_laws.proofs.Written.{and-both}
 use Rattle.queue.specs.Record.{Bytes}
 use Rattle.state.specs.declared.Text.{Text}
-use Rattle.rules.specs.World.{World, rows, port}
+use Rattle.rules.specs.World.{World, height, port}
 use Rattle.rules.specs.Fonts.{Opened, opened, shut, openedAt, openFont}
-use Rattle.rules.specs.Text.{atPoint, home, withFont, withWrap, withScroll, withMetrics, placeX, placeY, Place, place, nowhere, wrapped, fitted, movedUp, glyphAt, glyphOn, characterIn, character, fontChosen, chooseFont, placeIn, setPlace}
-use Rattle.rules.proofs.Good.{TextGood, FramebufferGood, Parts, rows-are, put-framebuffer, put-text, Leaves, passes}
-
--- ---- the framebuffer: every painter makes bytes, as many as there were
-
-pub painted-good : {n : ℕ} {g : List ℕ} → FramebufferGood n g → (f : ℕ → ℕ → Bool → Bool) → FramebufferGood n (repaint f g)
-painted-good {n} {g} s f = record { bytes = bytes-repaint f g; long = length-repaint f g ∙ s .long }
+use Rattle.rules.specs.Text.{atPoint, home, withFont, withWrap, withScroll, withMetrics, placeX, placeY, Place, place, nowhere, wrapped, fitted, glyphAt, glyphOn, characterIn, character, fontChosen, chooseFont, placeIn, setPlace}
+use Rattle.rules.proofs.Good.{TextGood, Parts, put-framebuffer, put-text, Leaves, passes}
 
 -- ---- the text point and its settings
 
@@ -90,7 +84,7 @@ module _ {n m : ℕ} {w : World} (p : Parts n m w) where
 
   pub choose-good : (i : ℕ) → i < 256 → Leaves n m (chooseFont w i)
   unfolding chooseFont
-  choose-good i h = choice i (openFont (rows w) (w .store) i) h (font-numbered (rows w) (w .store) i)
+  choose-good i h = choice i (openFont (height w) (w .store) i) h (font-numbered (height w) (w .store) i)
 
   placing : (c r : ℕ) (o : Opened) → Numbered o → Leaves n m (placeIn w c r o)
   unfolding placeIn
@@ -98,29 +92,26 @@ module _ {n m : ℕ} {w : World} (p : Parts n m w) where
   placing c r (opened f) k =
       let x = placeX (port w .text) f c in
       let y = placeY (port w .text) f r in
-      passes n m (eqb c 0 || eqb r 0 || leb width x || leb (rows w) y) 17 _ (omega arith)
-      (λ h. let hx = leb-false width x (or-two (eqb c 0 || eqb r 0) (leb width x) (or-one (eqb c 0 || eqb r 0 || leb width x) (leb (rows w) y) h)) in
-      let hy = leb-false (rows w) y (or-two (eqb c 0 || eqb r 0 || leb width x) (leb (rows w) y) h) in
-      put-text p (at-point (p .port-good .text) x y (omega (arith, hx)) (omega (arith, hy, rows-are p, p .low))))
+      passes n m (eqb c 0 || eqb r 0 || leb width x || leb (height w) y) 17 _ (omega arith)
+      (λ h. let hx = leb-false width x (or-two (eqb c 0 || eqb r 0) (leb width x) (or-one (eqb c 0 || eqb r 0 || leb width x) (leb (height w) y) h)) in
+      let hy = leb-false (height w) y (or-two (eqb c 0 || eqb r 0 || leb width x) (leb (height w) y) h) in
+      put-text p (at-point (p .port-good .text) x y (omega (arith, hx)) (omega (arith, hy, p .height))))
 
   pub place-good : (c r : ℕ) → Leaves n m (setPlace w c r)
   unfolding setPlace
-  place-good c r = placing c r (openFont (rows w) (w .store) (port w .text .font)) (font-numbered (rows w) (w .store) (port w .text .font))
+  place-good c r = placing c r (openFont (height w) (w .store) (port w .text .font)) (font-numbered (height w) (w .store) (port w .text .font))
 
-  raised-good : (up : ℕ) → FramebufferGood n (movedUp up (w .framebuffer))
-  raised-good up = by-test (FramebufferGood n) (eqb up 0) _ _ (λ _. p .framebuffer) (λ _. painted-good (p .framebuffer) _)
-
-  glyph-at : (f : List ℕ) (o v t : ℕ) (q : Place) → Placed (rows w) v q → Leaves n m (glyphAt w f o v t q)
+  glyph-at : (f : List ℕ) (o v t : ℕ) (q : Place) → Placed (height w) v q → Leaves n m (glyphAt w f o v t q)
   unfolding glyphAt
   glyph-at f o v t nowhere h = omega arith
   glyph-at f o v t (place x y up) h =
-      put-text (put-framebuffer p (painted-good (raised-good up) _))
-      (at-point (p .port-good .text) (x + v + port w .text .«char_space») y (omega (arith, h .0, p .port-good .text .fits .char-space)) (omega (arith, h .1, rows-are p, p .low)))
+      put-text (put-framebuffer p (bytes-repaint _ _))
+      (at-point (p .port-good .text) (x + v + port w .text .«char_space») y (omega (arith, h .0, p .port-good .text .fits .char-space)) (omega (arith, h .1, p .height)))
 
   glyph-on : (f : List ℕ) (g : Glyph) → Leaves n m (glyphOn w f g)
   unfolding glyphOn
   glyph-on f the-variants.Missing = omega arith
-  glyph-on f (the-variants.At o v t) = glyph-at f o v t (fitted (rows w) v t (wrapped (port w .text) v t)) (room-placed (rows w) v t (wrapped (port w .text) v t))
+  glyph-on f (the-variants.At o v t) = glyph-at f o v t (fitted (height w) v t (wrapped (port w .text) v t)) (room-placed (height w) v t (wrapped (port w .text) v t))
 
   in-font : (c : ℕ) (o : Opened) → Numbered o → Leaves n m (characterIn w c o)
   unfolding characterIn
@@ -129,4 +120,4 @@ module _ {n m : ℕ} {w : World} (p : Parts n m w) where
 
   pub character-good : (c : ℕ) → Leaves n m (character w c)
   unfolding character
-  character-good c = in-font c (openFont (rows w) (w .store) (port w .text .font)) (font-numbered (rows w) (w .store) (port w .text .font))
+  character-good c = in-font c (openFont (height w) (w .store) (port w .text .font)) (font-numbered (height w) (w .store) (port w .text .font))

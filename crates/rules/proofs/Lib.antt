@@ -1,4 +1,5 @@
 pub mod Examples
+pub mod Heights
 pub mod Footprints
 pub mod Refusals
 pub mod Streams

@@ -14,6 +14,7 @@ refuse-alters w n =
     record {
       framebuffer = refl;
       store = refl;
+      height = refl;
       panel-same = refl;
       text = refl;
       drawing = refl;

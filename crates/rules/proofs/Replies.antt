@@ -24,7 +24,7 @@ use Rattle.state.specs.declared.Phase.{Phase}
 use Rattle.state.specs.declared.Phase.the-variants.{Idle, Prefix, Gathering, Inline, Upload}
 use Rattle.state.specs.State.{barAt, stripAt}
 use Rattle.state.specs.Commands.{commandOf, argumentsOf}
-use Rattle.rules.specs.World.{World, rows, port, panel, withFramebuffer, putText, Outcome, done, refused, quietly, refuseIf, arg}
+use Rattle.rules.specs.World.{World, height, port, panel, withFramebuffer, putText, Outcome, done, refused, quietly, refuseIf, arg}
 use Rattle.rules.specs.Fonts.{Opened, opened, shut, openFont}
 use Rattle.rules.specs.Text.{Place, place, nowhere, atPoint, placeX, placeY, wrapped, fitted, fontChosen, chooseFont, placeIn, setPlace, glyphAt, glyphOn, characterIn, character}
 use Rattle.rules.specs.Drawing.{ordered, clear, setColour, drawPixel, drawLine, drawFrame, fillRectangle}
@@ -71,7 +71,7 @@ glyph-brief w f o v t (place x y up) = silent _
 on-brief : (w : World) (f : List ℕ) (g : Glyph) → Brief (glyphOn w f g)
 unfolding glyphOn
 on-brief w f glyph.Missing = mute _
-on-brief w f (glyph.At o v t) = glyph-brief w f o v t (fitted (rows w) v t (wrapped (port w .text) v t))
+on-brief w f (glyph.At o v t) = glyph-brief w f o v t (fitted (height w) v t (wrapped (port w .text) v t))
 
 in-brief : (w : World) (c : ℕ) (o : Opened) → Brief (characterIn w c o)
 unfolding characterIn
@@ -80,7 +80,7 @@ in-brief w c (opened f) = on-brief w f (glyphOf f c)
 
 character-brief : (w : World) (c : ℕ) → Brief (character w c)
 unfolding character
-character-brief w c = in-brief w c (openFont (rows w) (w .store) (port w .text .font))
+character-brief w c = in-brief w c (openFont (height w) (w .store) (port w .text .font))
 
 chosen-brief : (w : World) (n : ℕ) (o : Opened) → Brief (fontChosen w n o)
 unfolding fontChosen
@@ -92,7 +92,7 @@ unfolding placeIn
 place-brief w x y (shut r) = mute _
 place-brief w x y (opened f) =
     let t = port w .text in
-    brief-if (eqb x 0 || eqb y 0 || leb width (placeX t f x) || leb (rows w) (placeY t f y)) 17 _ (silent (putText w (atPoint t (placeX t f x) (placeY t f y))))
+    brief-if (eqb x 0 || eqb y 0 || leb width (placeX t f x) || leb (height w) (placeY t f y)) 17 _ (silent (putText w (atPoint t (placeX t f x) (placeY t f y))))
 
 -- ---- commands
 
@@ -122,12 +122,12 @@ obey-brief Unknown a w = mute _
 obey-brief Clear a w = silent _
 obey-brief Home a w = silent _
 obey-brief SetPoint a w = silent _
-obey-brief SetPlace a w = place-brief w (arg a 0) (arg a 1) (openFont (rows w) (w .store) (port w .text .font))
+obey-brief SetPlace a w = place-brief w (arg a 0) (arg a 1) (openFont (height w) (w .store) (port w .text .font))
 obey-brief WrapOn a w = silent _
 obey-brief WrapOff a w = silent _
 obey-brief ScrollOn a w = silent _
 obey-brief ScrollOff a w = silent _
-obey-brief ChooseFont a w = chosen-brief w (arg a 0) (openFont (rows w) (w .store) (arg a 0))
+obey-brief ChooseFont a w = chosen-brief w (arg a 0) (openFont (height w) (w .store) (arg a 0))
 obey-brief SetMetrics a w = silent _
 obey-brief SetColour a w = silent _
 obey-brief DrawPixel a w = silent _

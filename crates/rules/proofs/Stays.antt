@@ -26,7 +26,7 @@ use Rattle.state.specs.State.{barAt, stripAt}
 use Rattle.state.specs.Soundness.{soundPhase}
 use Rattle.state.specs.Canonical.{canonicalUpload, canonicalPhase}
 use Rattle.state.specs.Commands.{commandOf, argumentsOf}
-use Rattle.rules.specs.World.{World, rows, port, panel, Outcome, done, refused, refuseIf, arg}
+use Rattle.rules.specs.World.{World, height, port, panel, Outcome, done, refused, refuseIf, arg}
 use Rattle.rules.specs.Fonts.{Opened, opened, shut, openFont}
 use Rattle.rules.specs.Text.{placeX, placeY, Place, place, nowhere, wrapped, fitted, glyphAt, glyphOn, characterIn, character, fontChosen, chooseFont, placeIn, setPlace}
 use Rattle.rules.specs.Drawing.{ordered, clear, setColour, drawPixel, drawLine, drawFrame, fillRectangle}
@@ -83,16 +83,16 @@ module _ {m : ℕ} (w : World) (good-store : StoreGood m (w .store)) (k n : ℕ)
 
   choose-stays : (i : ℕ) → Keeps (chooseFont w i)
   unfolding chooseFont
-  choose-stays i = choice i (openFont (rows w) (w .store) i)
+  choose-stays i = choice i (openFont (height w) (w .store) i)
 
   placing : (c r : ℕ) (o : Opened) → Keeps (placeIn w c r o)
   unfolding placeIn
   placing c r (shut i) = tt
-  placing c r (opened f) = unless (eqb c 0 || eqb r 0 || leb width (placeX (port w .text) f c) || leb (rows w) (placeY (port w .text) f r)) 17 _ (λ _. same)
+  placing c r (opened f) = unless (eqb c 0 || eqb r 0 || leb width (placeX (port w .text) f c) || leb (height w) (placeY (port w .text) f r)) 17 _ (λ _. same)
 
   place-stays : (c r : ℕ) → Keeps (setPlace w c r)
   unfolding setPlace
-  place-stays c r = placing c r (openFont (rows w) (w .store) (port w .text .font))
+  place-stays c r = placing c r (openFont (height w) (w .store) (port w .text .font))
 
   glyph-at : (f : List ℕ) (o v t : ℕ) (q : Place) → Keeps (glyphAt w f o v t q)
   unfolding glyphAt
@@ -102,7 +102,7 @@ module _ {m : ℕ} (w : World) (good-store : StoreGood m (w .store)) (k n : ℕ)
   glyph-on : (f : List ℕ) (g : Glyph) → Keeps (glyphOn w f g)
   unfolding glyphOn
   glyph-on f the-variants.Missing = tt
-  glyph-on f (the-variants.At o v t) = glyph-at f o v t (fitted (rows w) v t (wrapped (port w .text) v t))
+  glyph-on f (the-variants.At o v t) = glyph-at f o v t (fitted (height w) v t (wrapped (port w .text) v t))
 
   in-font : (c : ℕ) (o : Opened) → Keeps (characterIn w c o)
   unfolding characterIn
@@ -111,7 +111,7 @@ module _ {m : ℕ} (w : World) (good-store : StoreGood m (w .store)) (k n : ℕ)
 
   character-stays : (c : ℕ) → Keeps (character w c)
   unfolding character
-  character-stays c = in-font c (openFont (rows w) (w .store) (port w .text .font))
+  character-stays c = in-font c (openFont (height w) (w .store) (port w .text .font))
 
   bitmap-at : (t : Found) (x y : ℕ) → Keeps (bitmapAt w t x y)
   unfolding bitmapAt bitmapIn

@@ -9,10 +9,10 @@ use Rattle.pixels.specs.Framebuffer.{width}
 use Rattle.bar_graph.specs.Bars.{writeOf, writtenBar}
 use Rattle.strip_chart.specs.Strips.{shiftedStrip}
 use Rattle.state.specs.State.{barOf, barSlot, strip, barAt, stripAt, withBars, withStrips}
-use Rattle.rules.specs.World.{World, rows, panel, withFramebuffer, withPanel, Outcome, quietly, refuseIf}
+use Rattle.rules.specs.World.{World, height, panel, withFramebuffer, withPanel, Outcome, quietly, refuseIf}
 
 abbrev pub inBounds : World → ℕ → ℕ → ℕ → ℕ → Bool
-inBounds w x1 y1 x2 y2 = ltb x1 width && ltb x2 width && ltb y1 (rows w) && ltb y2 (rows w)
+inBounds w x1 y1 x2 y2 = ltb x1 width && ltb x2 width && ltb y1 (height w) && ltb y2 (height w)
 
 -- corners in order, and no side of one pixel: x1 < x2, y1 < y2
 abbrev pub apart : ℕ → ℕ → ℕ → ℕ → Bool

@@ -22,7 +22,7 @@ use Rattle.state.specs.declared.Phase.{Phase}
 use Rattle.state.specs.declared.Phase.the-variants.{Idle, Prefix, Gathering, Inline, Upload}
 use Rattle.state.specs.State.{barOf, barAt, stripAt}
 use Rattle.state.specs.Commands.{commandOf, argumentsOf}
-use Rattle.rules.specs.World.{World, rows, port, panel, Outcome, done, refused, arg}
+use Rattle.rules.specs.World.{World, height, port, panel, Outcome, done, refused, arg}
 use Rattle.rules.specs.Fonts.{Opened, opened, shut, openFont}
 use Rattle.rules.specs.Text.{Place, place, nowhere, wrapped, fitted}
 use Rattle.rules.specs.Step.{outcome, noBitmap}
@@ -39,14 +39,14 @@ placeEvent wide tall (place x y up) = painted (cond (eqb up 0) (box x (x + wide)
 
 abbrev pub glyphEvent : World → List ℕ → Glyph → Event
 glyphEvent w f the-variants.Missing = quiet
-glyphEvent w f (the-variants.At offset wide tall) = placeEvent wide tall (fitted (rows w) wide tall (wrapped (port w .text) wide tall))
+glyphEvent w f (the-variants.At offset wide tall) = placeEvent wide tall (fitted (height w) wide tall (wrapped (port w .text) wide tall))
 
 abbrev pub fontEvent : World → ℕ → Opened → Event
 fontEvent w c (shut r) = quiet
 fontEvent w c (opened f) = glyphEvent w f (glyphOf f c)
 
 unfoldable pub characterEvent : World → ℕ → Event
-characterEvent w c = fontEvent w c (openFont (rows w) (w .store) (port w .text .font))
+characterEvent w c = fontEvent w c (openFont (height w) (w .store) (port w .text .font))
 
 -- ---- commands
 

@@ -11,7 +11,7 @@ use Rattle.directory.specs.Directory.{entries, hasFile, foundNumber}
 use Rattle.files.specs.Files.{unusedOf, entry, appended, deleted, purged, storedByte}
 use Rattle.state.specs.declared.Phase.the-variants.{Idle, Upload}
 use Rattle.state.specs.State.{startText}
-use Rattle.rules.specs.World.{World, rows, port, withStore, putText, Outcome, done, quietly, refused, refuseIf}
+use Rattle.rules.specs.World.{World, height, port, withStore, putText, Outcome, done, quietly, refused, refuseIf}
 use Rattle.rules.specs.Text.{withFont}
 use Rattle.rules.specs.Pictures.{inPhase}
 
@@ -63,4 +63,4 @@ deleteFile w type number =
 -- 20; text settings back to the start, the text point home
 unfoldable pub purge : World → ℕ → ℕ → Outcome
 purge w a b =
-    refuseIf (not (eqb a 89 && eqb b 33)) unknownType (quietly (putText (withStore w (purged (w .store))) (startText (rows w))))
+    refuseIf (not (eqb a 89 && eqb b 33)) unknownType (quietly (putText (withStore w (purged (w .store))) (startText (height w))))

@@ -3,7 +3,7 @@
 use mathlib.Core.Path.{_≡_}
 use mathlib.Core.Bool.{true, false}
 use mathlib.Core.List.{List}
-use Prim.Native.Nat.{ℕ, _<_}
+use Prim.Native.Nat.{ℕ}
 use lib.ListN.{length}
 use Rattle.directory.specs.Directory.{validOf}
 use Rattle.queue.specs.Record.{Bytes}
@@ -12,23 +12,16 @@ use Rattle.state.specs.declared.Phase.the-variants.{Idle, Prefix, Gathering, In
 use Rattle.state.specs.Soundness.{soundState, thresholdsFit}
 use Rattle.state.specs.Canonical.{canonicalState}
 use Rattle.state.specs.Fits.{Fits}
-use Rattle.rules.specs.World.{World, rows, port, panel}
+use Rattle.rules.specs.World.{World, port, panel}
 use Rattle.rules.specs.Files.{inUse, lacksSpace}
 
 -- sixteen bars
 abbrev pub Shaped : World → Type 0
 Shaped w = length (panel w .bars) ≡ 16
 
--- ---- the store and the framebuffer
-
 pub record StoreKeeps (s : List ℕ) : Type 0 where
   pub bytes : Bytes s
   pub valid : validOf s ≡ true
-
--- the number of rows is a byte too
-pub record FramebufferFits (w : World) : Type 0 where
-  pub bytes : Bytes (w .framebuffer)
-  pub low : rows w < 256
 
 -- ---- an upload under way would now get neither 25 nor 24
 
@@ -41,10 +34,10 @@ Welcome (Upload kind number size stored waiting byte) s = (inUse s kind number �
 
 -- GOOD
 pub record Good (w : World) : Type 0 where
-  pub sound : soundState (rows w) (w .state) ≡ true
+  pub sound : soundState (w .state) ≡ true
   pub thresholds : thresholdsFit (port w .flow) ≡ true
   pub canonical : canonicalState (w .state) ≡ true
   pub fits : Fits (w .state)
   pub store : StoreKeeps (w .store)
-  pub framebuffer : FramebufferFits w
+  pub framebuffer : Bytes (w .framebuffer)
   pub upload : Welcome (port w .line .phase) (w .store)

@@ -14,7 +14,7 @@ use Rattle.opened_font.specs.declared.Glyph.{Glyph}
 use Rattle.opened_font.specs.declared.Glyph.the-variants.{At, Missing}
 use Rattle.opened_font.specs.Glyphs.{glyphOf, glyphNumber}
 use Rattle.state.specs.declared.Text.{Text}
-use Rattle.rules.specs.World.{World, rows, port, withFramebuffer, putText, Outcome, quietly, refused, refuseIf, arg}
+use Rattle.rules.specs.World.{World, height, port, withFramebuffer, putText, Outcome, quietly, refused, refuseIf, arg}
 use Rattle.rules.specs.Fonts.{Opened, opened, shut, openFont}
 
 -- ---- settings
@@ -51,7 +51,7 @@ fontChosen w n (opened f) = quietly (putText w (withFont (port w .text) n))
 fontChosen w n (shut r) = refused r []
 
 unfoldable pub chooseFont : World → ℕ → Outcome
-chooseFont w n = fontChosen w n (openFont (rows w) (w .store) n)
+chooseFont w n = fontChosen w n (openFont (height w) (w .store) n)
 
 -- the text point by column and row, from 1, of a font's nominal width and height: 17
 abbrev pub placeX : Text → List ℕ → ℕ → ℕ
@@ -63,11 +63,11 @@ placeY t f row = t .top + (row - 1) * (heightOf f + t .«line_space»)
 unfoldable pub placeIn : World → ℕ → ℕ → Opened → Outcome
 placeIn w column row (shut r) = refused r []
 placeIn w column row (opened f) =
-    refuseIf (eqb column 0 || eqb row 0 || leb width (placeX (port w .text) f column) || leb (rows w) (placeY (port w .text) f row)) outOfBounds
+    refuseIf (eqb column 0 || eqb row 0 || leb width (placeX (port w .text) f column) || leb (height w) (placeY (port w .text) f row)) outOfBounds
     (quietly (putText w (atPoint (port w .text) (placeX (port w .text) f column) (placeY (port w .text) f row))))
 
 unfoldable pub setPlace : World → ℕ → ℕ → Outcome
-setPlace w column row = placeIn w column row (openFont (rows w) (w .store) (port w .text .font))
+setPlace w column row = placeIn w column row (openFont (height w) (w .store) (port w .text .font))
 
 -- ---- characters
 
@@ -107,7 +107,7 @@ glyphAt w f offset wide tall (place x y up) =
 -- 28
 unfoldable pub glyphOn : World → List ℕ → Glyph → Outcome
 glyphOn w f Missing = refused (glyphNumber Missing) []
-glyphOn w f (At offset wide tall) = glyphAt w f offset wide tall (fitted (rows w) wide tall (wrapped (port w .text) wide tall))
+glyphOn w f (At offset wide tall) = glyphAt w f offset wide tall (fitted (height w) wide tall (wrapped (port w .text) wide tall))
 
 unfoldable pub characterIn : World → ℕ → Opened → Outcome
 characterIn w c (shut r) = refused r []
@@ -115,4 +115,4 @@ characterIn w c (opened f) = glyphOn w f (glyphOf f c)
 
 -- any byte but 254 outside a command: 22, 23, 28, 29
 unfoldable pub character : World → ℕ → Outcome
-character w c = characterIn w c (openFont (rows w) (w .store) (port w .text .font))
+character w c = characterIn w c (openFont (height w) (w .store) (port w .text .font))

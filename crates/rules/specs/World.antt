@@ -4,7 +4,6 @@ use mathlib.Core.List.{List, []}
 use mathlib.Core.Bool.{Bool, cond}
 use Prim.Native.Nat.{ℕ}
 use lib.ListN.{getD}
-use Rattle.pixels.specs.Framebuffer.{height}
 use Rattle.state.specs.declared.Port.{Port}
 use Rattle.state.specs.declared.Panel.{Panel}
 use Rattle.state.specs.declared.Text.{Text}
@@ -19,8 +18,9 @@ pub record World : Type 0 where
 abbrev pub world : List ℕ → List ℕ → State → World
 world g s t = record { framebuffer = g; store = s; state = t }
 
-abbrev pub rows : World → ℕ
-rows w = height (w .framebuffer)
+-- as the board chose them at start
+abbrev pub height : World → ℕ
+height w = w .state .height
 
 abbrev pub port : World → Port
 port w = w .state .port
@@ -35,10 +35,10 @@ abbrev pub withStore : World → List ℕ → World
 withStore w s = world (w .framebuffer) s (w .state)
 
 abbrev pub withPort : World → Port → World
-withPort w p = world (w .framebuffer) (w .store) (state p (panel w))
+withPort w p = world (w .framebuffer) (w .store) (state (height w) p (panel w))
 
 abbrev pub withPanel : World → Panel → World
-withPanel w q = world (w .framebuffer) (w .store) (state (port w) q)
+withPanel w q = world (w .framebuffer) (w .store) (state (height w) (port w) q)
 
 abbrev pub putText : World → Text → World
 putText w t = withPort w (withText (port w) t)

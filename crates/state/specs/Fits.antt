@@ -91,8 +91,9 @@ pub record PanelFits (q : Panel) : Type 0 where
   pub contrast : q .contrast < 256
   pub minutes : q .backlight .minutes < 256
 
--- ---- both
+-- ---- the whole
 
 pub record Fits (s : State) : Type 0 where
+  pub height : s .height < 256
   pub port : PortFits (s .port)
   pub panel : PanelFits (s .panel)

@@ -1,11 +1,12 @@
--- When a state is sound, on a framebuffer of h rows: the rules' list and nothing else. That at most one of gathering, data in line and an upload is under
--- way is the type of the phase. What a record needs beside it stands in Canonical and, for the flow thresholds, at the end.
+-- When a state is sound: the rules' list and nothing else. That at most one of gathering, data in line and an upload is under way is the type of the
+-- phase. What a record needs beside it stands in Canonical and, for the flow thresholds, at the end.
 -- Assumes nothing.
 use mathlib.Core.List.{List, [], _∷_}
 use mathlib.Core.Bool.{Bool, true, not, _&&_, _||_}
 use Prim.Native.Nat.{ℕ, _+_, _-_, _*_}
 use lib.Dec.{leb, ltb}
 use Rattle.pixels.specs.Framebuffer.{width}
+use Rattle.canvas.specs.Sizes.{isHeight}
 use Rattle.bar_graph.specs.declared.Bar.{Bar}
 use Rattle.bar_graph.specs.Bars.{lengthOf}
 use Rattle.bitmap.specs.Bitmaps.{rowBytes}
@@ -55,7 +56,7 @@ soundText t = leb (t .x) 495 && leb (t .y) 255
 unfoldable pub soundPort : Port → Bool
 soundPort p = soundPhase (p .line .phase) && soundText (p .text)
 
--- on the framebuffer, with x1 < x2 and y1 < y2
+-- on a framebuffer of h rows, with x1 < x2 and y1 < y2
 abbrev pub soundCorners : ℕ → ℕ → ℕ → ℕ → ℕ → Bool
 soundCorners h x1 y1 x2 y2 = ltb x1 x2 && ltb y1 y2 && ltb x2 width && ltb y2 h
 
@@ -72,8 +73,9 @@ soundStrip h s = not (s .on) || soundCorners h (s .x1) (s .y1) (s .x2) (s .y2)
 unfoldable pub soundPanel : ℕ → Panel → Bool
 soundPanel h q = every (soundBar h) (q .bars) && every (soundStrip h) (q .strips)
 
-unfoldable pub soundState : ℕ → State → Bool
-soundState h s = soundPort (s .port) && soundPanel h (s .panel)
+-- a height that there is, and all else by it
+unfoldable pub soundState : State → Bool
+soundState s = isHeight (s .height) && soundPort (s .port) && soundPanel (s .height) (s .panel)
 
 -- ---- beside soundness
 

@@ -78,11 +78,11 @@ startPanel =
       backlight = record { on = true; minutes = 0 };
     }
 
-abbrev pub state : Port → Panel → State
-state p q = record { port = p; panel = q }
+abbrev pub state : ℕ → Port → Panel → State
+state h p q = record { height = h; port = p; panel = q }
 
 abbrev pub startState : ℕ → State
-startState h = state (startPort h) startPanel
+startState h = state h (startPort h) startPanel
 
 -- ---- parts put anew
 

@@ -101,6 +101,7 @@ pub fn start_state(height: u8) -> State
     ensures { λ r. ⌜ r ≡ startState height ⌝ }
 {
     State {
+        height,
         port: start_port(height),
         panel: start_panel(),
     }

@@ -1,4 +1,4 @@
-// What the display remembers between bytes, by value: what belongs to one serial line (Port) and what belongs to the display (Panel).
+// What the display remembers between bytes, by value: its height, what belongs to one serial line (Port) and what belongs to the display (Panel).
 mod checks;
 mod initial;
 
@@ -243,6 +243,8 @@ pub struct Panel {
 }
 
 pub struct State {
+    // The framebuffer's rows, as the board chose them at start.
+    pub height: u8,
     pub port: Port,
     pub panel: Panel,
 }

@@ -8,7 +8,6 @@ use Prim.Native.Nat.{ℕ, _+_, _<_, _≤_}
 use lib.Dec.{eqb, ltb}
 use lib.ListN.{length}
 use borrow.Author.Tests.{not-true, not-false, eq-eqb, ne-eqb, lt-ltb, le-ltb, le-leb, lt-leb}
-use Rattle.pixels.specs.Framebuffer.{height}
 use Rattle.directory.specs.declared.Entry.{Entry}
 use Rattle.directory.specs.declared.Totals.{Totals}
 use Rattle.directory.specs.declared.Found.{Found}
@@ -152,7 +151,6 @@ module _ (g s : List ℕ) (st : State) (a b : ℕ) where
   unfolding purge
   purge-second e h = rw (eq-eqb a 89 e, ne-eqb b 33 h)
 
-  pub purge-done : (s' : List ℕ) (h : ℕ) → height g ≡ h → a ≡ 89 → b ≡ 33 → s' ≡ purged s
-      → purge (world g s st) a b ≡ quietly (putText (world g s' st) (startText h))
+  pub purge-done : (s' : List ℕ) → a ≡ 89 → b ≡ 33 → s' ≡ purged s → purge (world g s st) a b ≡ quietly (putText (world g s' st) (startText (st .height)))
   unfolding purge
-  purge-done s' h t e f d = rw (eq-eqb a 89 e, eq-eqb b 33 f, d, t)
+  purge-done s' e f d = rw (eq-eqb a 89 e, eq-eqb b 33 f, d)

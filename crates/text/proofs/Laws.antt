@@ -6,7 +6,7 @@ use native.Mathlib.Nat.{mul-le-mul}
 use Prim.Native.Nat.{ℕ, _+_, _-_, _*_, _<_, _≤_}
 use lib.ListN.{take, drop}
 use borrow.Author.Tests.{eq-eqb, ne-eqb, le-leb, lt-leb}
-use Rattle.pixels.specs.Framebuffer.{height, width}
+use Rattle.pixels.specs.Framebuffer.{width}
 use Rattle.directory.specs.declared.Found.{Found}
 use Rattle.directory.specs.declared.Found.the-variants.{At, Nothing}
 use Rattle.directory.specs.Directory.{findOf}
@@ -61,14 +61,14 @@ module _ (h : ℕ) (s : List ℕ) (n : ℕ) where
 
 -- ---- choosing it
 
-module _ (g s : List ℕ) (st : State) (h n : ℕ) (tall : height g ≡ h) where
-  pub choose-shut : (r : ℕ) → openFont h s n ≡ shut r → chooseFont (world g s st) n ≡ refused r []
+module _ (g s : List ℕ) (st : State) (n : ℕ) where
+  pub choose-shut : (r : ℕ) → openFont (st .height) s n ≡ shut r → chooseFont (world g s st) n ≡ refused r []
   unfolding chooseFont fontChosen
-  choose-shut r e = rw (tall, e)
+  choose-shut r e = rw e
 
-  pub choose-opened : (l : List ℕ) → openFont h s n ≡ opened l → chooseFont (world g s st) n ≡ quietly (putText (world g s st) (withFont (st .port .text) n))
+  pub choose-opened : (l : List ℕ) → openFont (st .height) s n ≡ opened l → chooseFont (world g s st) n ≡ quietly (putText (world g s st) (withFont (st .port .text) n))
   unfolding chooseFont fontChosen
-  choose-opened l e = rw (tall, e)
+  choose-opened l e = rw e
 
 -- ---- the text point by column and row
 
@@ -79,7 +79,7 @@ pub pixel-is : (margin place size space m p z q n : ℕ) → z ≡ size → q �
     → m + n ≡ margin + (place - 1) * (size + space)
 pixel-is margin place size space m p z q n ez eq em ep en = rw (en, ez, eq, em, ep)
 
-module _ (g s : List ℕ) (st : State) (h c r v k : ℕ) (tall : height g ≡ h) where
+module _ (g s : List ℕ) (st : State) (c r v k : ℕ) where
   pub place-no-column : c ≡ 0 → placeBy (world g s st) c r v k ≡ refused 17 []
   unfolding placeBy
   place-no-column e = rw (eq-eqb c 0 e)
@@ -94,38 +94,38 @@ module _ (g s : List ℕ) (st : State) (h c r v k : ℕ) (tall : height g ≡ h)
     unfolding placeBy
     place-off-right b = rw (ne-eqb c 0 column, ne-eqb r 0 row, ← at-x, le-leb width x b)
 
-    pub place-off-below : x < width → h ≤ y → placeBy (world g s st) c r v k ≡ refused 17 []
+    pub place-off-below : x < width → st .height ≤ y → placeBy (world g s st) c r v k ≡ refused 17 []
     unfolding placeBy
-    place-off-below b d = rw (ne-eqb c 0 column, ne-eqb r 0 row, ← at-x, lt-leb width x b, tall, ← at-y, le-leb h y d)
+    place-off-below b d = rw (ne-eqb c 0 column, ne-eqb r 0 row, ← at-x, lt-leb width x b, ← at-y, le-leb (st .height) y d)
 
-    pub place-done : x < width → y < h → placeBy (world g s st) c r v k ≡ quietly (putText (world g s st) (atPoint (st .port .text) x y))
+    pub place-done : x < width → y < st .height → placeBy (world g s st) c r v k ≡ quietly (putText (world g s st) (atPoint (st .port .text) x y))
     unfolding placeBy
-    place-done b d = rw (ne-eqb c 0 column, ne-eqb r 0 row, ← at-x, lt-leb width x b, tall, ← at-y, lt-leb h y d)
+    place-done b d = rw (ne-eqb c 0 column, ne-eqb r 0 row, ← at-x, lt-leb width x b, ← at-y, lt-leb (st .height) y d)
 
-module _ (g s : List ℕ) (st : State) (h c r : ℕ) (tall : height g ≡ h) where
-  pub place-shut : (k : ℕ) → openFont h s (st .port .text .font) ≡ shut k → setPlace (world g s st) c r ≡ refused k []
+module _ (g s : List ℕ) (st : State) (c r : ℕ) where
+  pub place-shut : (k : ℕ) → openFont (st .height) s (st .port .text .font) ≡ shut k → setPlace (world g s st) c r ≡ refused k []
   unfolding setPlace placeIn
-  place-shut k e = rw (tall, e)
+  place-shut k e = rw e
 
-  opened-place : (l : List ℕ) → openFont h s (st .port .text .font) ≡ opened l → setPlace (world g s st) c r ≡ placeIn (world g s st) c r (opened l)
+  opened-place : (l : List ℕ) → openFont (st .height) s (st .port .text .font) ≡ opened l → setPlace (world g s st) c r ≡ placeIn (world g s st) c r (opened l)
   unfolding setPlace
-  opened-place l e = rw (tall, e)
+  opened-place l e = rw e
 
   by-size : (l : List ℕ) → placeIn (world g s st) c r (opened l) ≡ placeBy (world g s st) c r (nominalWidth l) (heightOf l)
   unfolding placeIn placeBy
   by-size l = refl
 
-  pub place-opened : (l : List ℕ) (v k : ℕ) → openFont h s (st .port .text .font) ≡ opened l → v ≡ nominalWidth l → k ≡ heightOf l
+  pub place-opened : (l : List ℕ) (v k : ℕ) → openFont (st .height) s (st .port .text .font) ≡ opened l → v ≡ nominalWidth l → k ≡ heightOf l
       → setPlace (world g s st) c r ≡ placeBy (world g s st) c r v k
   place-opened l v k e d f = opened-place l e ∙ by-size l ∙ rw (d, f)
 
 -- ---- characters
 
-module _ (g s : List ℕ) (st : State) (h c : ℕ) (tall : height g ≡ h) where
-  pub character-shut : (k : ℕ) → openFont h s (st .port .text .font) ≡ shut k → character (world g s st) c ≡ refused k []
+module _ (g s : List ℕ) (st : State) (c : ℕ) where
+  pub character-shut : (k : ℕ) → openFont (st .height) s (st .port .text .font) ≡ shut k → character (world g s st) c ≡ refused k []
   unfolding character characterIn
-  character-shut k e = rw (tall, e)
+  character-shut k e = rw e
 
-  pub character-opened : (l : List ℕ) → openFont h s (st .port .text .font) ≡ opened l → character (world g s st) c ≡ characterIn (world g s st) c (opened l)
+  pub character-opened : (l : List ℕ) → openFont (st .height) s (st .port .text .font) ≡ opened l → character (world g s st) c ≡ characterIn (world g s st) c (opened l)
   unfolding character
-  character-opened l e = rw (tall, e)
+  character-opened l e = rw e

@@ -10,7 +10,7 @@ use lib.ListN.{getD, drop}
 use lib.Seq.{getD-drop}
 use borrow.Author.Tests.{eq-eqb, ne-eqb, le-leb, lt-leb, leb-true}
 use Rattle.file_laws.proofs.Written.{and-both}
-use Rattle.pixels.specs.Framebuffer.{bitOf, width, height}
+use Rattle.pixels.specs.Framebuffer.{bitOf, width}
 use Rattle.pixels.specs.Regions.{within, box}
 use Rattle.pixels.proofs.Intervals.{within-true}
 use Rattle.pixels.proofs.Painting.{put-same}
@@ -119,16 +119,16 @@ up-some n g g' a e = e ∙ rw (ne-eqb n 0 (λ z. absurd (omega arith)))
 pub up-none : (n : ℕ) (g : List ℕ) → n ≤ 0 → g ≡ movedUp n g
 up-none n g a = rw (eq-eqb n 0 (omega arith))
 
-module _ (g s : List ℕ) (st : State) (h v f : ℕ) (bits : List ℕ) (c : Place) (tall : height g ≡ h) (found : c ≡ placeOf (fitted h v f (wrapped (st .port .text) v f))) where
+module _ (g s : List ℕ) (st : State) (v f : ℕ) (bits : List ℕ) (c : Place) (found : c ≡ placeOf (fitted (st .height) v f (wrapped (st .port .text) v f))) where
   pub glyph-29 : c ≡ Nowhere → glyphOn (world g s st) bits (GlyphAt 0 v f) ≡ refused 29 []
   unfolding glyphOn glyphAt
-  glyph-29 e = rw (tall, nowhere-is (fitted h v f (wrapped (st .port .text) v f)) (sym found ∙ e))
+  glyph-29 e = rw (nowhere-is (fitted (st .height) v f (wrapped (st .port .text) v f)) (sym found ∙ e))
 
   pub glyph-done : (x y u a d : ℕ) (g' g'' : List ℕ) → a ≡ v → d ≡ st .port .text .«char_space» → c ≡ At x y u → g' ≡ movedUp u g → g'' ≡ packedBox x y v f bits g'
       → glyphOn (world g s st) bits (GlyphAt 0 v f) ≡ quietly (putText (world g'' s st) (atPoint (st .port .text) (x + a + d) y))
   unfolding glyphOn glyphAt
   glyph-done x y u a d g' g'' ea ed e up paint =
-      rw (tall, at-is (fitted h v f (wrapped (st .port .text) v f)) x y u (sym found ∙ e), paint, up, ea, ed)
+      rw (at-is (fitted (st .height) v f (wrapped (st .port .text) v f)) x y u (sym found ∙ e), paint, up, ea, ed)
 
 -- ---- of a font's file
 

@@ -6,7 +6,7 @@ use Prim.Native.Nat.{ℕ, _+_, _-_, _*_}
 use lib.Dec.{eqb, leb}
 use Rattle.refusals.specs.Refusals.{outOfBounds}
 use Rattle.pixels.specs.Framebuffer.{width}
-use Rattle.rules.specs.World.{World, rows, port, putText, Outcome, quietly, refuseIf}
+use Rattle.rules.specs.World.{World, height, port, putText, Outcome, quietly, refuseIf}
 use Rattle.rules.specs.Text.{atPoint, Place as Ruled, place, nowhere}
 use Rattle.text.specs.declared.Place.{Place}
 use Rattle.text.specs.declared.Place.the-variants.{At, Nowhere}
@@ -19,7 +19,7 @@ unfoldable pub placeBy : World → ℕ → ℕ → ℕ → ℕ → Outcome
 placeBy w column row wide tall =
     refuseIf
     (eqb column 0 || eqb row 0 || leb width (pixelBy (port w .text .left) column wide (port w .text .«char_space»))
-    || leb (rows w) (pixelBy (port w .text .top) row tall (port w .text .«line_space»))) outOfBounds
+    || leb (height w) (pixelBy (port w .text .top) row tall (port w .text .«line_space»))) outOfBounds
     (quietly (putText w
     (atPoint (port w .text) (pixelBy (port w .text .left) column wide (port w .text .«char_space»)) (pixelBy (port w .text .top) row tall (port w .text .«line_space»)))))
 

@@ -8,6 +8,7 @@ use compare::report::expect;
 use compare::{random, streams};
 use reference::board::Board;
 use reference::generator::program_stream;
+use reference::glass::{HEIGHTS, LOW, TALL};
 use reference::prng::Prng;
 use reference::properties::{scenes, SEEDS};
 
@@ -28,19 +29,21 @@ fn all_scenes(count: u64, plan: impl Fn(u64) -> Plan) -> Pair {
 #[test]
 fn scenes_whole() {
     let pair = all_scenes(SEEDS, |_| Plan::plain(Cuts::Whole));
-    assert!(pair.counts.bytes_fed > 1_000_000, "only {} bytes", pair.counts.bytes_fed);
+    assert!(pair.counts.bytes_fed > 2_000_000, "only {} bytes", pair.counts.bytes_fed);
+    pair.counts.met_on_both("feed", 0, SEEDS * 2 / 5);
 }
 
 #[test]
 fn scenes_byte_by_byte() {
-    all_scenes(300, |_| Plan::plain(Cuts::Bytes));
+    all_scenes(500, |_| Plan::plain(Cuts::Bytes));
 }
 
 #[test]
 fn scenes_in_pieces_with_little_room() {
     let pair = all_scenes(SEEDS, |seed| {
-        let cuts = [Cuts::Few, Cuts::Mixed, Cuts::Long, Cuts::Whole][seed as usize % 4];
-        let rooms = [Rooms::Scarce, Rooms::Mixed][seed as usize / 4 % 2];
+        // four seeds in a row meet both heights and both beginnings
+        let cuts = [Cuts::Few, Cuts::Mixed, Cuts::Long, Cuts::Whole][seed as usize / 4 % 4];
+        let rooms = [Rooms::Scarce, Rooms::Mixed][seed as usize / 16 % 2];
         Plan { cuts, rooms, between: 0 }
     });
     pair.counts.met("feed", 5, 10_000);
@@ -58,6 +61,7 @@ fn lists_of_calls() {
     for (name, answers) in answers {
         for &answer in answers {
             pair.counts.met(name, answer, 100);
+            pair.counts.met_on_both(name, answer, 10);
         }
     }
     for signal in [254, 255] {
@@ -91,7 +95,8 @@ fn every_room() {
         stream
     };
     for number in 0..40 {
-        let board = Board::fresh(pair.font(), random::store(&mut rng));
+        let height = HEIGHTS[number / 2 % 2];
+        let board = Board::fresh(pair.font(), height, random::store(&mut rng, height));
         let memory = if number % 2 == 0 { Memory::of(&board) } else { random::memory(&mut rng) };
         let piece = if number % 4 < 2 { uploads(&mut rng) } else { streams::commands(&mut rng, &memory) };
         for room in 0..40 {
@@ -105,17 +110,19 @@ fn every_room() {
 #[test]
 fn long_pieces() {
     let mut pair = Pair::default();
-    let mut memory = Memory::of(&Board::fresh(pair.font(), vec![0; 32768]));
-    let mut piece = Vec::new();
-    for seed in 0.. {
-        piece.extend(program_stream(pair.font(), seed));
-        if piece.len() > 70_000 {
-            break;
+    for height in HEIGHTS {
+        let mut memory = Memory::of(&Board::fresh(pair.font(), height, vec![0; 32768]));
+        let mut piece = Vec::new();
+        for seed in 0.. {
+            piece.extend(program_stream(pair.font(), height, seed));
+            if piece.len() > 70_000 {
+                break;
+            }
         }
+        let result = pair.call(&mut memory, Call::Feed { piece: &piece, room: 2 * piece.len() });
+        expect(&mut pair, &format!("a long stream of {height} rows"), result.map(drop));
     }
-    let result = pair.call(&mut memory, Call::Feed { piece: &piece, room: 2 * piece.len() });
-    expect(&mut pair, "a long stream", result.map(drop));
-    memory.state = Memory::of(&Board::fresh(pair.font(), vec![0; 1024])).state;
+    let mut memory = Memory::of(&Board::fresh(pair.font(), TALL, vec![0; 1024]));
     let serial = [254, 52, 7, 9].repeat(40_000);
     let result = pair.call(&mut memory, Call::Feed { piece: &serial, room: 100_000 });
     expect(&mut pair, "many replies", result.map(drop));
@@ -165,7 +172,7 @@ fn flow_changed_between() {
 #[test]
 fn counts_roll_over() {
     let mut pair = Pair::default();
-    let mut memory = Memory::of(&Board::fresh(pair.font(), vec![0; 1024]));
+    let mut memory = Memory::of(&Board::fresh(pair.font(), LOW, vec![0; 1024]));
     memory.queue[HELD] = 80;
     for count in [0u16, 1, 254, 255, 256, 511, 32767, 65279, 65280, 65534, 65535] {
         memory.state[REFUSALS..REFUSALS + 2].copy_from_slice(&count.to_le_bytes());

@@ -2,17 +2,28 @@
 
 use reference::builtin::built_in_font;
 use reference::case_file::{folder, read_all};
-use reference::generator::program_stream;
+use reference::generator::{height_of, program_stream};
+use reference::glass::{HEIGHTS, LOW, TALL};
 use reference::listing::listing_of_stream;
 use reference::prng::Prng;
 use reference::shrink::shrink;
+use std::ffi::OsStr;
 use std::io::Write;
+use std::os::unix::ffi::OsStrExt;
 use std::process::{Command, Stdio};
 
-/// What the program prints for these bytes.
-fn program(input: &[u8]) -> String {
+/// What the program prints for these bytes when it is to show so many rows; 64 without an argument.
+fn program(height: u8, input: &[u8]) -> String {
+    match height {
+        LOW => program_with(&[], input),
+        _ => program_with(&[height.to_string().as_ref()], input),
+    }
+}
+
+fn program_with(arguments: &[&OsStr], input: &[u8]) -> String {
     let path = std::env::var("LISTING_PROGRAM").expect("LISTING_PROGRAM is not set: it must name the listing program");
     let mut child = Command::new(&path)
+        .args(arguments)
         .stdin(Stdio::piped())
         .stdout(Stdio::piped())
         .spawn()
@@ -49,22 +60,53 @@ fn difference(expected: &str, got: &str) -> Option<String> {
     }
 }
 
-fn same(name: &str, font: &[u8], input: &[u8]) {
-    let wrong = |input: &[u8]| difference(&listing_of_stream(font, input), &program(input));
+fn same(name: &str, font: &[u8], height: u8, input: &[u8]) {
+    let wrong = |input: &[u8]| difference(&listing_of_stream(font, height, input), &program(height, input));
     let Some(first) = wrong(input) else {
         return;
     };
     if input.len() > 5000 {
-        panic!("{name}, {} bytes: {first}", input.len());
+        panic!("{name}, {height} rows, {} bytes: {first}", input.len());
     }
     let short = shrink(input, &mut |input| wrong(input).is_some());
-    panic!("{name}: {first}\nshortest {short:?}: {:?}", wrong(&short));
+    panic!("{name}, {height} rows: {first}\nshortest {short:?}: {:?}", wrong(&short));
+}
+
+fn same_on_both(name: &str, font: &[u8], input: &[u8]) {
+    HEIGHTS.iter().for_each(|&height| same(name, font, height, input));
 }
 
 #[test]
 fn sample() {
     let expected = "glass 240 64\n1: 2-4\n2: 2-4\nrefused 0 last 0\nreplies\n";
-    assert_eq!(program(&[254, 120, 1, 2, 1, 4, 2]), expected);
+    assert_eq!(program(LOW, &[254, 120, 1, 2, 1, 4, 2]), expected);
+    assert_eq!(program(TALL, &[254, 120, 1, 2, 1, 4, 2]), expected.replace("64", "128"));
+}
+
+/// Exactly `128` as the first argument; whatever follows it does not count.
+#[test]
+fn arguments() {
+    let input = [254, 112, 0, 0, 254, 112, 239, 63, 254, 112, 1, 64, 254, 112, 239, 127];
+    let low = "glass 240 64\n0: 0-0\n63: 239-239\nrefused 0 last 0\nreplies\n";
+    let tall = "glass 240 128\n0: 0-0\n63: 239-239\n64: 1-1\n127: 239-239\nrefused 0 last 0\nreplies\n";
+    let with = |words: &[&str]| program_with(&words.iter().map(OsStr::new).collect::<Vec<_>>(), &input);
+    for words in [&["128"][..], &["128", "64"], &["128", "x"], &["128", ""], &["128", "128"], &["128", "64", "1"]] {
+        assert_eq!(with(words), tall, "{words:?}");
+    }
+    assert_eq!(with(&[]), low);
+    let long = "128".repeat(1000);
+    let others = [
+        "", "64", "0128", "128 ", " 128", "+128", "-128", "128x", "x128", "128.0", "12", "28", "1280", "129", "127", "256", "384",
+        "0x80", "--128", "128\n", "\u{661}28", &long,
+    ];
+    for word in others {
+        assert_eq!(with(&[word]), low, "{word:?}");
+        assert_eq!(with(&[word, "128"]), low, "{word:?} and 128");
+    }
+    // bytes that are no text
+    for bytes in [&[255][..], &[49, 50, 56, 255], &[177, 50, 56], &[128]] {
+        assert_eq!(program_with(&[OsStr::from_bytes(bytes)], &input), low, "{bytes:?}");
+    }
 }
 
 /// The bytes of an example's first part: decimals, and text in quotes.
@@ -91,8 +133,10 @@ fn protocol_examples() {
         let block = block.split("```").next().unwrap();
         let (sent, expected) = block.split_once("\n--\n").expect("bytes, --, listing");
         let bytes = example_bytes(sent);
-        assert_eq!(program(&bytes), expected, "the program, of {sent}");
-        assert_eq!(listing_of_stream(&font, &bytes), expected, "the reference, of {sent}");
+        // an example's own first line says which glass it is of
+        let height = if expected.starts_with("glass 240 128\n") { TALL } else { LOW };
+        assert_eq!(program(height, &bytes), expected, "the program, of {sent}");
+        assert_eq!(listing_of_stream(&font, height, &bytes), expected, "the reference, of {sent}");
         count += 1;
     }
     assert!(count >= 32, "only {count} examples were found");
@@ -100,7 +144,9 @@ fn protocol_examples() {
 
 #[test]
 fn empty_input() {
-    assert_eq!(program(&[]), "glass 240 64\nrefused 0 last 0\nreplies\n");
+    for height in HEIGHTS {
+        assert_eq!(program(height, &[]), format!("glass 240 {height}\nrefused 0 last 0\nreplies\n"));
+    }
 }
 
 /// Against the listings that the cases themselves give.
@@ -110,7 +156,7 @@ fn named_cases() {
     assert!(cases.len() >= 80, "only {} cases found", cases.len());
     let mut wrong = Vec::new();
     for case in &cases {
-        if let Some(first) = difference(&case.expected, &program(&case.input)) {
+        if let Some(first) = difference(&case.expected, &program(case.height, &case.input)) {
             wrong.push(format!("{}: {first}", case.name));
         }
     }
@@ -120,8 +166,9 @@ fn named_cases() {
 #[test]
 fn generated_streams() {
     let font = built_in_font();
-    for seed in 5000..5300 {
-        same(&format!("stream {seed}"), &font, &program_stream(&font, seed));
+    for seed in 5000..5600 {
+        let height = height_of(seed);
+        same(&format!("stream {seed}"), &font, height, &program_stream(&font, height, seed));
     }
 }
 
@@ -132,7 +179,7 @@ fn noise() {
         let mut rng = Prng::new(seed);
         let count = rng.between(1, 3000);
         let input: Vec<u8> = (0..count).map(|_| if rng.percent(10) { 254 } else { rng.byte() }).collect();
-        same(&format!("noise {seed}"), &font, &input);
+        same_on_both(&format!("noise {seed}"), &font, &input);
     }
 }
 
@@ -142,30 +189,30 @@ fn long_input() {
     let mut input = Vec::new();
     let mut seed = 9000;
     while input.len() <= 200_000 {
-        input.extend(program_stream(&font, seed));
+        input.extend(program_stream(&font, height_of(seed), seed));
         seed += 1;
     }
-    same("a long input", &font, &input);
+    same_on_both("a long input", &font, &input);
     // one that no buffer size divides, and one character over and over
     input.truncate(131_073);
-    same("a long input cut short", &font, &input);
-    same("one character", &font, &vec![87; 150_001]);
+    same_on_both("a long input cut short", &font, &input);
+    same_on_both("one character", &font, &vec![87; 150_001]);
 }
 
 #[test]
 fn many_replies() {
     let font = built_in_font();
     for times in [2047, 2048, 2049, 3000, 40_000] {
-        same("serial numbers", &font, &[254, 52, 7, 9].repeat(times));
+        same_on_both("serial numbers", &font, &[254, 52, 7, 9].repeat(times));
     }
     // an odd number of replies first, so that a pair of them stands across the limit
     let mut input = vec![254, 36, 1, 1, 0];
     input.extend([254, 52, 250, 1].repeat(3000));
     input.extend([254, 112, 9, 9, 254, 3]);
-    same("a pair across the limit", &font, &input);
+    same_on_both("a pair across the limit", &font, &input);
     let mut rng = Prng::new(3);
     let mut upload = vec![254, 94, 7, 136, 19];
     (0..5000).for_each(|_| upload.extend([rng.byte(), 1]));
     upload.extend([254, 112, 1, 1]);
-    same("echoes", &font, &upload);
+    same_on_both("echoes", &font, &upload);
 }

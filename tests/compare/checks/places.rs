@@ -1,16 +1,16 @@
 //! Damaged memory, place by place: records, directory, lengths, and the order of the answers.
 
 use compare::compare::{Call, Pair};
-use compare::damage::{self, lengths, STORE_LENGTHS};
+use compare::damage::{self, glass_lengths, lengths, STORE_LENGTHS};
 use compare::expect::Expect;
 use compare::lists::{any_calls, Run};
 use compare::memory::Memory;
 use compare::random;
-use compare::record::{PHASE, QUEUE_BYTES, STATE_BYTES};
+use compare::record::{HEIGHT, PHASE, QUEUE_BYTES, STATE_BYTES};
 use compare::report::expect;
 use compare::streams;
 use reference::files::DIRECTORY;
-use reference::glass::GLASS_BYTES;
+use reference::glass::HEIGHTS;
 use reference::prng::Prng;
 
 /// Random sound memory with a short store, to be quick.
@@ -23,26 +23,28 @@ fn short_memory(rng: &mut Prng) -> Memory {
     }
 }
 
-/// Memories that a feed does not refuse, `each` of them in each phase.
+/// Memories that a feed does not refuse, `each` of them in each phase of each height.
 fn of_each_phase(rng: &mut Prng, each: usize) -> Vec<Memory> {
-    let mut found = [0; 5];
+    let mut found = [[0; 5]; 2];
     let mut all = Vec::new();
-    while found.iter().any(|&count| count < each) {
+    while found.iter().flatten().any(|&count| count < each) {
         let memory = short_memory(rng);
-        let phase = memory.state[PHASE] as usize;
+        let count = &mut found[(memory.state[HEIGHT] == HEIGHTS[1]) as usize][memory.state[PHASE] as usize];
         let accepted = Expect::default().feed(&mut memory.clone(), &[], &mut []).answer == 0;
-        if found[phase] < each && accepted {
-            found[phase] += 1;
+        if *count < each && accepted {
+            *count += 1;
             all.push(memory);
         }
     }
     all
 }
 
-/// All four functions on copies of the same memory.
+/// All four functions on copies of the same memory; start for either glass.
 fn four(pair: &mut Pair, memory: &Memory, piece: &[u8]) -> Run {
     pair.call(&mut memory.clone(), Call::Feed { piece, room: 3 })?;
-    pair.call(&mut memory.clone(), Call::Start)?;
+    for height in HEIGHTS {
+        pair.call(&mut memory.clone(), Call::Start(height as u32))?;
+    }
     both_of_the_queue(pair, memory)
 }
 
@@ -52,12 +54,12 @@ fn both_of_the_queue(pair: &mut Pair, memory: &Memory) -> Run {
     Ok(())
 }
 
-/// Each of the 201 places with each value, in every phase.
+/// Each of the 202 places with each value, in every phase of each height.
 #[test]
 fn every_place_of_the_state_record() {
     let mut pair = Pair::default();
     let mut rng = Prng::new(21);
-    for (number, memory) in of_each_phase(&mut rng, 2).iter().enumerate() {
+    for (number, memory) in of_each_phase(&mut rng, 1).iter().enumerate() {
         let mut bad = memory.clone();
         for place in 0..STATE_BYTES {
             for value in 0..=255 {
@@ -81,7 +83,7 @@ fn every_place_of_the_state_record() {
 fn every_place_for_arriving_and_taking() {
     let mut pair = Pair::default();
     let mut rng = Prng::new(22);
-    for (number, memory) in of_each_phase(&mut rng, 2).iter().enumerate() {
+    for (number, memory) in of_each_phase(&mut rng, 1).iter().enumerate() {
         let mut bad = memory.clone();
         (bad.glass, bad.store) = (Vec::new(), Vec::new());
         for place in 0..STATE_BYTES + QUEUE_BYTES {
@@ -115,7 +117,7 @@ fn every_place_of_the_directory() {
             for value in 0..=255 {
                 bad.store[place] = value;
                 let result = match value % 8 {
-                    0 => pair.call(&mut bad.clone(), Call::Start),
+                    0 => pair.call(&mut bad.clone(), Call::Start(bad.state[HEIGHT] as u32)),
                     _ => pair.call(&mut bad.clone(), Call::Feed { piece: &[65][..place % 2], room: 2 }),
                 };
                 expect(&mut pair, &format!("memory {number}, place {place}, value {value}"), result.map(drop));
@@ -132,18 +134,27 @@ fn every_place_of_the_directory() {
 fn every_length() {
     let mut pair = Pair::default();
     let mut rng = Prng::new(24);
-    let memory = &of_each_phase(&mut rng, 1)[0];
+    for memory in HEIGHTS.map(|height| random::memory_of(&mut rng, height)) {
+        every_length_with(&mut pair, &memory, &mut rng);
+    }
+    for (answer, least) in [(1, 50), (2, 5), (3, 100)] {
+        pair.counts.met_on_both("start", answer, least);
+        pair.counts.met_on_both("feed", answer, least);
+    }
+}
+
+fn every_length_with(pair: &mut Pair, memory: &Memory, rng: &mut Prng) {
     let mut bad = memory.clone();
-    for glass in lengths(GLASS_BYTES) {
+    for glass in glass_lengths() {
         bad.glass = sized(&memory.glass, glass);
         for store in STORE_LENGTHS {
             bad.store = sized(&memory.store, store);
             for state in lengths(STATE_BYTES) {
                 bad.state = sized(&memory.state, state);
-                let queue = rng.pick(&lengths(QUEUE_BYTES));
+                let queue = [QUEUE_BYTES, rng.pick(&lengths(QUEUE_BYTES))][rng.below(2)];
                 bad.queue = sized(&memory.queue, queue);
-                let result = four(&mut pair, &bad, &[65]);
-                expect(&mut pair, &format!("lengths {glass} {store} {state} {queue}"), result);
+                let result = four(pair, &bad, &[65]);
+                expect(pair, &format!("lengths {glass} {store} {state} {queue}"), result);
             }
         }
     }

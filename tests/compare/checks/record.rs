@@ -4,17 +4,22 @@ use compare::random;
 use compare::record::*;
 use reference::builtin::built_in_font;
 use reference::generator::any_scene;
+use reference::glass::{HEIGHTS, LOW, TALL};
 use reference::prng::Prng;
 use reference::queue::Queue;
-use reference::state::{Bar, Gathering, Inline, Kind, State, Strip, Text, Upload};
+use reference::state::{Bar, Gathering, Inline, Kind, Lent, State, Strip, Text, Upload};
 
 fn start() -> [u8; STATE_BYTES] {
-    encode_state(&State::at_start())
+    encode_state(&State::at_start(LOW))
 }
 
 /// The start's record with some bytes otherwise.
 fn with(changes: &[(usize, u8)]) -> bool {
-    let mut record = start();
+    with_height(LOW, changes)
+}
+
+fn with_height(height: u8, changes: &[(usize, u8)]) -> bool {
+    let mut record = encode_state(&State::at_start(height));
     for &(place, value) in changes {
         record[place] = value;
     }
@@ -23,16 +28,43 @@ fn with(changes: &[(usize, u8)]) -> bool {
 
 #[test]
 fn start_record_byte_by_byte() {
-    let mut expected = [0; 201];
-    for (place, value) in [(23, 1), (30, 1), (31, 64), (32, 1), (33, 1), (34, 1), (198, 128), (199, 1)] {
-        expected[place] = value;
+    for height in HEIGHTS {
+        let mut expected = [0; 202];
+        for (place, value) in [(23, 1), (30, 1), (31, height), (32, 1), (33, 1), (34, 1), (43, height), (199, 128), (200, 1)] {
+            expected[place] = value;
+        }
+        assert_eq!(encode_state(&State::at_start(height)), expected);
     }
-    assert_eq!(start(), expected);
+}
+
+#[test]
+fn height_in_its_place() {
+    for height in 0..=255 {
+        for own in HEIGHTS {
+            assert_eq!(with_height(own, &[(43, height)]), height == 64 || height == 128, "{height}");
+        }
+    }
+    // the scroll row is free of the height
+    assert!(with_height(LOW, &[(31, 128)]) && with_height(TALL, &[(31, 64)]) && with_height(TALL, &[(31, 0)]));
+}
+
+/// What a feed may learn of a record before it knows that it is sound.
+#[test]
+fn lent_to_a_feed() {
+    let mut record = start().to_vec();
+    record[43] = TALL;
+    record[32] = 2;
+    assert!(matches!(lent(&record, decode_state(&record).as_mut()), Lent::Meaningless { height: TALL }));
+    record[43] = 9;
+    assert!(matches!(lent(&record, decode_state(&record).as_mut()), Lent::Meaningless { height: 9 }));
+    assert!(matches!(lent(&record[..201], decode_state(&record[..201]).as_mut()), Lent::WrongLength));
+    (record[43], record[32]) = (TALL, 1);
+    assert!(matches!(lent(&record, decode_state(&record).as_mut()), Lent::State(State { height: TALL, .. })));
 }
 
 #[test]
 fn every_field_in_its_place() {
-    let mut state = State::at_start();
+    let mut state = State::at_start(TALL);
     state.text = Text {
         font: 10,
         x: 256 + 11,
@@ -58,20 +90,21 @@ fn every_field_in_its_place() {
     assert_eq!(record[..23], [0; 23]);
     assert_eq!(record[23..34], [10, 11, 1, 12, 13, 14, 15, 16, 17, 0, 1]);
     assert_eq!(record[34..43], [0, 18, 19, 1, 20, 21, 23, 22, 24]);
-    assert_eq!(record[43..50], [1, 2, 25, 26, 27, 28, 3]);
-    assert_eq!(record[50..148], [0; 98]);
-    assert_eq!(record[148..155], [1, 3, 29, 30, 31, 32, 1]);
-    assert_eq!(record[155..160], [1, 33, 34, 35, 36]);
-    assert_eq!(record[160..190], [0; 30]);
-    assert_eq!(record[190..195], [1, 37, 38, 39, 40]);
-    assert_eq!(record[195..], [1, 41, 42, 43, 0, 44]);
+    assert_eq!(record[43], 128);
+    assert_eq!(record[44..51], [1, 2, 25, 26, 27, 28, 3]);
+    assert_eq!(record[51..149], [0; 98]);
+    assert_eq!(record[149..156], [1, 3, 29, 30, 31, 32, 1]);
+    assert_eq!(record[156..161], [1, 33, 34, 35, 36]);
+    assert_eq!(record[161..191], [0; 30]);
+    assert_eq!(record[191..196], [1, 37, 38, 39, 40]);
+    assert_eq!(record[196..], [1, 41, 42, 43, 0, 44]);
     assert_eq!(decode_state(&record), Some(state));
 }
 
 #[test]
 fn every_phase_in_its_place() {
     let of = |change: &dyn Fn(&mut State)| {
-        let mut state = State::at_start();
+        let mut state = State::at_start(LOW);
         change(&mut state);
         let record = encode_state(&state);
         assert_eq!(decode_state(&record).as_ref(), Some(&state));
@@ -117,7 +150,7 @@ fn sound_and_not_sound() {
     assert!(!with(&[(0, 4), (15, 1), (17, 1), (21, 2)]));
     // text and flags
     assert!(with(&[(24, 239), (25, 1)]) && !with(&[(24, 240), (25, 1)]) && !with(&[(25, 2)]));
-    for place in [32, 33, 34, 37, 199] {
+    for place in [32, 33, 34, 37, 200] {
         assert!(with(&[(place, 0)]) && with(&[(place, 1)]) && !with(&[(place, 2)]) && !with(&[(place, 255)]));
     }
     // thresholds, flow on or off
@@ -129,32 +162,41 @@ fn sound_and_not_sound() {
 
 #[test]
 fn bars_strips_and_serial() {
-    let bar = |b: [u8; 7]| with(&b.iter().enumerate().map(|(k, &v)| (43 + 7 * 4 + k, v)).collect::<Vec<_>>());
+    let places = |b: [u8; 7]| b.iter().enumerate().map(|(k, &v)| (44 + 7 * 4 + k, v)).collect::<Vec<_>>();
+    let bar = |b: [u8; 7]| with(&places(b));
+    let tall = |b: [u8; 7]| with_height(TALL, &places(b));
     assert!(bar([0; 7]) && bar([1, 0, 0, 0, 239, 63, 64]) && bar([1, 3, 0, 0, 239, 63, 240]));
     assert!(!bar([2, 0, 0, 0, 239, 63, 64]) && !bar([1, 4, 0, 0, 239, 63, 64]) && !bar([1, 0, 0, 0, 239, 63, 65]));
     assert!(!bar([1, 0, 0, 0, 240, 63, 0]) && !bar([1, 0, 0, 0, 239, 64, 0]));
     assert!(!bar([1, 0, 9, 0, 9, 63, 0]) && !bar([1, 0, 0, 9, 239, 9, 0]) && !bar([1, 3, 0, 0, 239, 63, 241]));
+    assert!(tall([1, 0, 0, 0, 239, 127, 128]) && tall([1, 0, 0, 64, 239, 65, 2]) && tall([1, 3, 0, 63, 239, 64, 240]));
+    assert!(!tall([1, 0, 0, 0, 239, 127, 129]) && !tall([1, 0, 0, 0, 239, 128, 0]) && !tall([1, 0, 0, 127, 239, 127, 0]));
+    assert!(!bar([1, 0, 0, 0, 239, 127, 0]) && !bar([1, 0, 0, 64, 239, 65, 0]));
     for k in 1..7 {
         let mut off = [0; 7];
         off[k] = 1;
         assert!(!bar(off), "byte {k} of a bar that is not set up");
     }
-    let strip = |s: [u8; 5]| with(&s.iter().enumerate().map(|(k, &v)| (155 + 5 * 7 + k, v)).collect::<Vec<_>>());
+    let places = |s: [u8; 5]| s.iter().enumerate().map(|(k, &v)| (156 + 5 * 7 + k, v)).collect::<Vec<_>>();
+    let strip = |s: [u8; 5]| with(&places(s));
+    let tall = |s: [u8; 5]| with_height(TALL, &places(s));
     assert!(strip([0; 5]) && strip([1, 0, 0, 239, 63]) && strip([1, 238, 62, 239, 63]));
     assert!(!strip([2, 0, 0, 239, 63]) && !strip([1, 0, 0, 240, 63]) && !strip([1, 0, 0, 239, 64]));
     assert!(!strip([1, 5, 0, 5, 9]) && !strip([1, 0, 5, 9, 5]));
+    assert!(tall([1, 0, 0, 239, 127]) && tall([1, 238, 126, 239, 127]) && !tall([1, 0, 0, 239, 128]));
+    assert!(!strip([1, 0, 0, 239, 127]) && !tall([1, 0, 127, 239, 127]));
     for k in 1..5 {
         let mut off = [0; 5];
         off[k] = 1;
         assert!(!strip(off), "byte {k} of a strip that is not set up");
     }
-    assert!(with(&[(195, 1)]) && with(&[(195, 1), (196, 9), (197, 9)]) && !with(&[(195, 2)]));
-    assert!(!with(&[(196, 9)]) && !with(&[(197, 9)]));
+    assert!(with(&[(196, 1)]) && with(&[(196, 1), (197, 9), (198, 9)]) && !with(&[(196, 2)]));
+    assert!(!with(&[(197, 9)]) && !with(&[(198, 9)]));
 }
 
 #[test]
 fn lengths() {
-    for length in [0, 1, 200, 202, 402] {
+    for length in [0, 1, 200, 201, 203, 404] {
         let mut record = start().to_vec();
         record.resize(length, 0);
         assert_eq!(decode_state(&record), None);
@@ -188,8 +230,9 @@ fn round_trips() {
         let state = match seed % 2 {
             0 => any_scene(&font, seed).begin.state,
             _ => {
-                let store = random::store(&mut rng);
-                random::state(&mut rng, &store)
+                let height = rng.pick(&HEIGHTS);
+                let store = random::store(&mut rng, height);
+                random::state(&mut rng, height, &store)
             }
         };
         let record = encode_state(&state);

@@ -3,13 +3,15 @@
 use crate::expect::Expect;
 use crate::library::{Library, Returned};
 use crate::memory::Memory;
-use crate::record::state_place;
+use crate::record::{state_place, HEIGHT};
+use reference::glass::HEIGHTS;
 use std::collections::BTreeMap;
 use std::panic::{catch_unwind, AssertUnwindSafe};
 
 #[derive(Clone, Copy, Debug)]
 pub enum Call<'a> {
-    Start,
+    /// With the height it is given.
+    Start(u32),
     Feed { piece: &'a [u8], room: usize },
     Arrive(u8),
     Take,
@@ -18,7 +20,7 @@ pub enum Call<'a> {
 impl Call<'_> {
     pub fn name(&self) -> &'static str {
         match self {
-            Call::Start => "start",
+            Call::Start(_) => "start",
             Call::Feed { .. } => "feed",
             Call::Arrive(_) => "arrive",
             Call::Take => "take",
@@ -33,6 +35,7 @@ pub struct Failure {
     pub piece: Vec<u8>,
     pub room: usize,
     pub byte: u8,
+    pub height: u32,
     pub before: Memory,
     pub difference: String,
 }
@@ -41,6 +44,8 @@ pub struct Failure {
 pub struct Counts {
     /// Calls by function and answer.
     pub answers: BTreeMap<(&'static str, u32), u64>,
+    /// The same by the height that start was given, or that stands in the record.
+    pub by_height: BTreeMap<(&'static str, u32, u32), u64>,
     pub signals: BTreeMap<u8, u64>,
     pub bytes_fed: u64,
     pub replies: u64,
@@ -55,6 +60,14 @@ impl Counts {
     pub fn met(&self, name: &'static str, answer: u32, least: u64) {
         let count = self.answers.get(&(name, answer)).copied().unwrap_or(0);
         assert!(count >= least, "answer {answer} of {name} was met {count} times, and not {least}");
+    }
+
+    /// The same for each of the two heights.
+    pub fn met_on_both(&self, name: &'static str, answer: u32, least: u64) {
+        for height in HEIGHTS {
+            let count = self.by_height.get(&(name, height as u32, answer)).copied().unwrap_or(0);
+            assert!(count >= least, "answer {answer} of {name} with {height} rows was met {count} times, and not {least}");
+        }
     }
 }
 
@@ -79,12 +92,12 @@ impl Pair {
     /// Calls both; the memory becomes what both left, or the failure tells where they parted.
     pub fn call(&mut self, memory: &mut Memory, call: Call) -> Checked {
         match call {
-            Call::Start | Call::Feed { .. } => self.before.copy_from(memory),
+            Call::Start(_) | Call::Feed { .. } => self.before.copy_from(memory),
             Call::Arrive(_) | Call::Take => self.before.copy_records_from(memory),
         }
         match self.compare(memory, call) {
             Ok(returned) => {
-                self.count(call.name(), &returned);
+                self.count(call, &returned);
                 Ok(returned)
             }
             Err(difference) => Err(Box::new(self.failure(call, difference))),
@@ -100,21 +113,21 @@ impl Pair {
         }
         let library = &mut self.library;
         let got = match call {
-            Call::Start => library.start(memory),
+            Call::Start(height) => library.start(memory, height),
             Call::Feed { piece, .. } => library.feed(memory, piece, &self.replies_before),
             Call::Arrive(byte) => library.arrive(memory, byte),
             Call::Take => library.take(memory),
         }?;
         let (expect, replies) = (&mut self.expect, &mut self.replies);
         let expected = catch_unwind(AssertUnwindSafe(|| match call {
-            Call::Start => expect.start(memory),
+            Call::Start(height) => expect.start(memory, height),
             Call::Feed { piece, .. } => expect.feed(memory, piece, replies),
             Call::Arrive(byte) => expect.arrive(memory, byte),
             Call::Take => expect.take(memory),
         }))
         .map_err(|_| String::from("the reference panicked"))?;
         numbers(&expected, &got)?;
-        if let Call::Start | Call::Feed { .. } = call {
+        if let Call::Start(_) | Call::Feed { .. } = call {
             bytes("glass", &memory.glass, library.glass.contents(), |k| format!("row {} byte {}", k / 30, k % 30))?;
             bytes("store", &memory.store, library.store.contents(), |_| String::new())?;
         }
@@ -126,7 +139,13 @@ impl Pair {
         Ok(expected)
     }
 
-    fn count(&mut self, name: &'static str, returned: &Returned) {
+    fn count(&mut self, call: Call, returned: &Returned) {
+        let name = call.name();
+        let height = match call {
+            Call::Start(height) => height,
+            _ => self.before.state.get(HEIGHT).map_or(0, |&height| height as u32),
+        };
+        *self.counts.by_height.entry((name, height, returned.answer)).or_default() += 1;
         *self.counts.answers.entry((name, returned.answer)).or_default() += 1;
         if returned.signal != 0 {
             *self.counts.signals.entry(returned.signal).or_default() += 1;
@@ -136,18 +155,19 @@ impl Pair {
     }
 
     fn failure(&self, call: Call, difference: String) -> Failure {
-        let (mut piece, mut room, mut byte) = (Vec::new(), 0, 0);
+        let (mut piece, mut room, mut byte, mut height) = (Vec::new(), 0, 0, 0);
         let mut before = self.before.clone();
         match call {
             Call::Feed { piece: fed, room: free } => (piece, room) = (fed.to_vec(), free),
             Call::Arrive(arriving) => byte = arriving,
-            _ => {}
+            Call::Start(given) => height = given,
+            Call::Take => {}
         }
         if let Call::Arrive(_) | Call::Take = call {
             // not lent, and not copied for this call
             (before.glass, before.store) = (Vec::new(), Vec::new());
         }
-        Failure { call: call.name(), piece, room, byte, before, difference }
+        Failure { call: call.name(), piece, room, byte, height, before, difference }
     }
 }
 

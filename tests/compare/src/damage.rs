@@ -2,14 +2,23 @@
 
 use crate::memory::Memory;
 use crate::random::bytes;
-use crate::record::{BARS, FLOW, GOT, INLINE, PHASE, QUEUE_BYTES, SERIAL, STATE_BYTES, STRIPS, TEXT, UPLOAD};
+use crate::record::{BARS, FLOW, GOT, HEIGHT, INLINE, PHASE, QUEUE_BYTES, SERIAL, STATE_BYTES, STRIPS, TEXT, UPLOAD};
 use reference::files::DIRECTORY;
-use reference::glass::GLASS_BYTES;
+use reference::glass::{glass_bytes, HEIGHTS, LOW, TALL};
 use reference::prng::Prng;
 
 /// Lengths near the right one, none at all, and those that look right in one or two bytes.
 pub fn lengths(right: usize) -> Vec<usize> {
     vec![0, 1, right - 1, right, right + 1, 2 * right, right + 256, right + 65536]
+}
+
+/// Near the length of either glass, and between the two.
+pub fn glass_lengths() -> Vec<usize> {
+    let mut all: Vec<usize> = HEIGHTS.iter().flat_map(|&height| lengths(glass_bytes(height))).collect();
+    all.extend([30, 1890, 1950, 2880, 3810, 3870]);
+    all.sort();
+    all.dedup();
+    all
 }
 
 pub const STORE_LENGTHS: [usize; 18] = [
@@ -19,8 +28,10 @@ pub const STORE_LENGTHS: [usize; 18] = [
 /// Damages one to three things.
 pub fn any(rng: &mut Prng, memory: &mut Memory) {
     for _ in 0..rng.pick(&[1, 1, 1, 2, 3]) {
-        match rng.below(9) {
+        match rng.below(11) {
             0..=2 => state(rng, &mut memory.state),
+            9 => height(rng, &mut memory.state),
+            10 => other_glass(rng, memory),
             3 => queue(rng, &mut memory.queue),
             4 | 5 => directory(rng, &mut memory.store),
             6 => length(rng, memory),
@@ -80,11 +91,24 @@ fn resize(rng: &mut Prng, slice: &mut Vec<u8>, lengths: &[usize]) {
 
 pub fn length(rng: &mut Prng, memory: &mut Memory) {
     match rng.below(4) {
-        0 => resize(rng, &mut memory.glass, &lengths(GLASS_BYTES)),
+        0 => resize(rng, &mut memory.glass, &glass_lengths()),
         1 => resize(rng, &mut memory.store, &STORE_LENGTHS),
         2 => resize(rng, &mut memory.state, &lengths(STATE_BYTES)),
         _ => resize(rng, &mut memory.queue, &lengths(QUEUE_BYTES)),
     }
+}
+
+/// Another height in the record: one that no glass has, or the other one.
+pub fn height(rng: &mut Prng, state: &mut [u8]) {
+    let any = rng.byte();
+    put(state, HEIGHT, rng.pick(&[LOW, TALL, 0, 1, 63, 65, 127, 129, 192, 255, any]));
+}
+
+/// The record as it is, lent with the glass of the other height.
+pub fn other_glass(rng: &mut Prng, memory: &mut Memory) {
+    let (low, tall) = (glass_bytes(LOW), glass_bytes(TALL));
+    let length = if memory.glass.len() == low { tall } else { low };
+    resize(rng, &mut memory.glass, &[length]);
 }
 
 /// Writes at a place if the record has it.
@@ -109,14 +133,20 @@ pub fn aimed(rng: &mut Prng, state: &mut [u8]) {
             put(state, FLOW + 2, rng.pick(&[79, 80, 81]) - full.min(79));
         }
         2 => {
-            let corners = rng.pick(&[[0, 0, 239, 63], [0, 0, 240, 63], [0, 0, 239, 64], [5, 5, 5, 9], [5, 9, 9, 9]]);
+            let corners = rng.pick(&[
+                [0, 0, 239, 63], [0, 0, 240, 63], [0, 0, 239, 64], [5, 5, 5, 9], [5, 9, 9, 9],
+                [0, 0, 239, 127], [0, 0, 239, 128], [0, 63, 9, 64], [0, 126, 9, 127],
+            ]);
             for (k, value) in [1, rng.below(5) as u8].into_iter().chain(corners).enumerate() {
                 put(state, bar + k, value);
             }
-            put(state, bar + 6, rng.pick(&[0, 5, 6, 63, 64, 65, 239, 240, 241]));
+            put(state, bar + 6, rng.pick(&[0, 2, 5, 6, 63, 64, 65, 127, 128, 129, 239, 240, 241]));
         }
         3 => {
-            let corners = rng.pick(&[[0, 0, 239, 63], [0, 0, 240, 63], [0, 0, 239, 64], [7, 0, 7, 1], [0, 7, 1, 7]]);
+            let corners = rng.pick(&[
+                [0, 0, 239, 63], [0, 0, 240, 63], [0, 0, 239, 64], [7, 0, 7, 1], [0, 7, 1, 7],
+                [0, 0, 239, 127], [0, 0, 239, 128], [0, 64, 9, 65],
+            ]);
             for (k, value) in [1].into_iter().chain(corners).enumerate() {
                 put(state, strip + k, value);
             }

@@ -4,7 +4,7 @@
 
 use crate::library::Returned;
 use crate::memory::Memory;
-use crate::record::{decode_queue, decode_state, encode_queue, encode_state, QUEUE_BYTES, STATE_BYTES};
+use crate::record::{decode_queue, decode_state, encode_queue, encode_state, lent, HEIGHT, QUEUE_BYTES, STATE_BYTES};
 use reference::builtin::built_in_font;
 use reference::feed;
 use reference::glass::Glass;
@@ -43,12 +43,12 @@ impl Expect {
     }
 
     /// A start looks at the records' lengths only, and keeps the ring's bytes.
-    pub fn start(&mut self, memory: &mut Memory) -> Returned {
+    pub fn start(&mut self, memory: &mut Memory, height: u32) -> Returned {
         let mut glass = self.dots(&memory.glass);
-        let mut state = (memory.state.len() == STATE_BYTES).then(State::at_start);
+        let mut state = (memory.state.len() == STATE_BYTES).then(|| State::at_start(memory.state[HEIGHT]));
         let mut queue = (memory.queue.len() == QUEUE_BYTES)
             .then(|| Queue { ring: memory.queue[..RING].to_vec(), ..Queue::at_start() });
-        let answer = feed::start(&mut glass, &memory.store, state.as_mut(), queue.as_mut());
+        let answer = feed::start(height, &mut glass, &memory.store, state.as_mut(), queue.as_mut());
         if answer == 0 {
             memory.glass.copy_from_slice(self.bytes(glass));
             memory.state.copy_from_slice(&encode_state(&state.unwrap()));
@@ -60,7 +60,8 @@ impl Expect {
     pub fn feed(&mut self, memory: &mut Memory, piece: &[u8], replies: &mut [u8]) -> Returned {
         let mut glass = self.dots(&memory.glass);
         let mut state = decode_state(&memory.state);
-        let fed = feed::feed(&self.font, &mut glass, &mut memory.store, state.as_mut(), piece, replies.len());
+        let record = lent(&memory.state, state.as_mut());
+        let fed = feed::feed(&self.font, &mut glass, &mut memory.store, record, piece, replies.len());
         let replied = fed.replies.len();
         replies[..replied].copy_from_slice(&fed.replies);
         if fed.answer == 0 || fed.answer == 5 {

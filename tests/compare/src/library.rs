@@ -6,6 +6,7 @@ use crate::memory::Memory;
 mod c {
     extern "C" {
         pub fn display_start(
+            height: u32,
             glass: *mut u8, glass_length: u64,
             store: *mut u8, store_length: u64,
             state: *mut u8, state_length: u64,
@@ -57,13 +58,14 @@ pub struct Library {
 type Told = Result<Returned, String>;
 
 impl Library {
-    pub fn start(&mut self, memory: &Memory) -> Told {
+    pub fn start(&mut self, memory: &Memory, height: u32) -> Told {
         self.lend_panel(memory);
         self.queue.fill(&memory.queue, self.turn + 3);
         let (glass, store, state, queue) = (&mut self.glass, &mut self.store, &mut self.state, &mut self.queue);
         // SAFETY: four separate buffers, each with its true length.
         let answer = unsafe {
             c::display_start(
+                height,
                 glass.pointer(), glass.length(),
                 store.pointer(), store.length(),
                 state.pointer(), state.length(),

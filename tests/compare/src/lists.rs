@@ -4,10 +4,11 @@ use crate::compare::{Call, Failure, Pair};
 use crate::damage;
 use crate::memory::Memory;
 use crate::random;
-use crate::record::{FLOW, PHASE, QUEUE_BYTES, STATE_BYTES};
+use crate::record::{FLOW, HEIGHT, PHASE, QUEUE_BYTES, STATE_BYTES};
 use crate::streams;
 use reference::generator::{any_scene, fresh_scene};
-use reference::glass::GLASS_BYTES;
+use reference::checks_start::UNKNOWN;
+use reference::glass::{glass_bytes, HEIGHTS};
 use reference::prng::Prng;
 
 pub type Run = Result<(), Box<Failure>>;
@@ -73,13 +74,14 @@ fn beginning(pair: &mut Pair, seed: u64, rng: &mut Prng) -> Result<(Memory, Vec<
     match rng.below(8) {
         0..=2 => {
             let scene = fresh_scene(pair.font(), seed);
+            let height = scene.begin.state.height;
             let mut memory = Memory {
-                glass: random::bytes(rng, GLASS_BYTES),
+                glass: random::bytes(rng, glass_bytes(height)),
                 store: scene.begin.store,
                 state: random::bytes(rng, STATE_BYTES),
                 queue: random::bytes(rng, QUEUE_BYTES),
             };
-            pair.call(&mut memory, Call::Start)?;
+            pair.call(&mut memory, Call::Start(height as u32))?;
             Ok((memory, scene.stream))
         }
         3..=5 => {
@@ -137,10 +139,21 @@ fn between(pair: &mut Pair, memory: &mut Memory, left: &[u8], rng: &mut Prng) ->
         12 | 13 => set_flow(pair, memory, rng),
         14 => {
             // a start on a copy, so that the stream can go on
-            pair.call(&mut memory.clone(), Call::Start)?;
+            let height = start_height(rng, memory);
+            pair.call(&mut memory.clone(), Call::Start(height))?;
             Ok(())
         }
         _ => damaged(pair, memory, left, rng, 1),
+    }
+}
+
+/// The record's own height most often, else either, or one that no glass has.
+pub fn start_height(rng: &mut Prng, memory: &Memory) -> u32 {
+    match rng.below(10) {
+        0 => rng.pick(&UNKNOWN),
+        1 => rng.next() as u32,
+        2 | 3 => rng.pick(&HEIGHTS) as u32,
+        _ => memory.state.get(HEIGHT).map_or(64, |&height| height as u32),
     }
 }
 
@@ -185,7 +198,10 @@ pub fn damaged(pair: &mut Pair, memory: &Memory, left: &[u8], rng: &mut Prng, co
 pub fn any_calls(pair: &mut Pair, memory: &mut Memory, left: &[u8], rng: &mut Prng) -> Run {
     for _ in 0..rng.between(1, 4) {
         match rng.below(8) {
-            0 => pair.call(memory, Call::Start)?,
+            0 => {
+                let height = start_height(rng, memory);
+                pair.call(memory, Call::Start(height))?
+            }
             1 => pair.call(memory, Call::Arrive(rng.byte()))?,
             2 => pair.call(memory, Call::Take)?,
             _ => {

@@ -6,15 +6,21 @@ use reference::commands::COMMANDS;
 use reference::files::{Files, DIRECTORY, FILES_MOST, STORE_LEAST, STORE_MOST};
 use reference::generator::EDGES;
 use reference::generator_files::{bad_bitmap, bad_font, good_bitmap, good_font};
-use reference::glass::GLASS_BYTES;
+use reference::glass::{glass_bytes, HEIGHTS};
 use reference::prng::Prng;
 use reference::queue::{Queue, RING};
 use reference::state::{Bar, Gathering, Inline, Kind, State, Strip, Upload};
 
+/// Of either height.
 pub fn memory(rng: &mut Prng) -> Memory {
-    let store = store(rng);
-    let state = encode_state(&state(rng, &store)).to_vec();
-    Memory { glass: bytes(rng, GLASS_BYTES), store, state, queue: encode_queue(&queue(rng)).to_vec() }
+    let height = rng.pick(&HEIGHTS);
+    memory_of(rng, height)
+}
+
+pub fn memory_of(rng: &mut Prng, height: u8) -> Memory {
+    let store = store(rng, height);
+    let state = encode_state(&state(rng, height, &store)).to_vec();
+    Memory { glass: bytes(rng, glass_bytes(height)), store, state, queue: encode_queue(&queue(rng)).to_vec() }
 }
 
 pub fn bytes(rng: &mut Prng, count: usize) -> Vec<u8> {
@@ -35,7 +41,7 @@ pub fn edge(rng: &mut Prng) -> u8 {
 }
 
 /// Short stores most often, since long ones cost time and show little more.
-pub fn store(rng: &mut Prng) -> Vec<u8> {
+pub fn store(rng: &mut Prng, height: u8) -> Vec<u8> {
     let length = match rng.below(20) {
         0 => STORE_MOST,
         1 => STORE_MOST - 1,
@@ -55,7 +61,7 @@ pub fn store(rng: &mut Prng) -> Vec<u8> {
         let kind = rng.between(1, 2) as u8;
         let number = if rng.percent(70) { rng.below(most + 2) as u8 } else { edge(rng) };
         let twice = store[..record].chunks(4).any(|r| r[..2] == [kind, number]);
-        let file = file(rng, kind, length - at, most);
+        let file = file(rng, height, kind, length - at, most);
         if twice || (kind, number) == (1, 1) || at + file.len() > length {
             // some numbers are taken: try the next, but not for ever
             if rng.percent(10) {
@@ -72,7 +78,7 @@ pub fn store(rng: &mut Prng) -> Vec<u8> {
     store
 }
 
-fn file(rng: &mut Prng, kind: u8, room: usize, most: usize) -> Vec<u8> {
+fn file(rng: &mut Prng, height: u8, kind: u8, room: usize, most: usize) -> Vec<u8> {
     if most > 20 && rng.percent(90) {
         // many files must be small ones to fit
         let count = rng.between(1, 9);
@@ -84,9 +90,9 @@ fn file(rng: &mut Prng, kind: u8, room: usize, most: usize) -> Vec<u8> {
             let count = rng.between(1, 60);
             bytes(rng, count)
         }
-        (2, 1) => bad_font(rng),
+        (2, 1) => bad_font(rng, height),
         (2, _) => bad_bitmap(rng),
-        (_, 1) => good_font(rng),
+        (_, 1) => good_font(rng, height),
         _ => good_bitmap(rng),
     }
 }
@@ -108,22 +114,22 @@ fn span(rng: &mut Prng, limit: usize) -> (u8, u8) {
     (first as u8, last as u8)
 }
 
-fn bar(rng: &mut Prng) -> Bar {
-    let ((x1, x2), (y1, y2)) = (span(rng, 240), span(rng, 64));
+fn bar(rng: &mut Prng, height: u8) -> Bar {
+    let ((x1, x2), (y1, y2)) = (span(rng, 240), span(rng, height as usize));
     let mut bar = Bar { side: rng.below(4) as u8, x1, y1, x2, y2, value: 0 };
     let length = bar.length();
     bar.value = [0, 1, length - 1, length, rng.between(0, length)][rng.below(5)] as u8;
     bar
 }
 
-fn strip(rng: &mut Prng) -> Strip {
-    let ((x1, x2), (y1, y2)) = (span(rng, 240), span(rng, 64));
+fn strip(rng: &mut Prng, height: u8) -> Strip {
+    let ((x1, x2), (y1, y2)) = (span(rng, 240), span(rng, height as usize));
     Strip { x1, y1, x2, y2 }
 }
 
-pub fn state(rng: &mut Prng, store: &[u8]) -> State {
+pub fn state(rng: &mut Prng, height: u8, store: &[u8]) -> State {
     let files = Files::read(store).expect("a good directory");
-    let mut state = State::at_start();
+    let mut state = State::at_start(height);
     let text = &mut state.text;
     let known = files.list.get(rng.below(files.list.len() + 1)).map_or(1, |file| file.number);
     text.font = if rng.percent(80) { known } else { edge(rng) };
@@ -132,15 +138,15 @@ pub fn state(rng: &mut Prng, store: &[u8]) -> State {
         (text.left, text.top) = (rng.below(9) as u8, rng.below(9) as u8);
     }
     (text.char_space, text.line_space) = (rng.pick(&[0, 1, 2, 255]), rng.pick(&[0, 1, 2, 57, 255]));
-    text.scroll_row = if rng.percent(50) { 64 } else { edge(rng) };
+    text.scroll_row = if rng.percent(50) { height } else { edge(rng) };
     (text.wrap, text.scroll) = (rng.percent(60), rng.percent(60));
     text.x = [0, 239, 240, 255, 256, 494, 495, rng.below(496)][rng.below(8)] as u16;
     text.y = edge(rng) as u16;
     state.black = rng.percent(50);
     (state.line_x, state.line_y) = (edge(rng), edge(rng));
     let share = rng.pick(&[0, 20, 100]);
-    state.bars = std::array::from_fn(|_| rng.percent(share).then(|| bar(rng)));
-    state.strips = std::array::from_fn(|_| rng.percent(share).then(|| strip(rng)));
+    state.bars = std::array::from_fn(|_| rng.percent(share).then(|| bar(rng, height)));
+    state.strips = std::array::from_fn(|_| rng.percent(share).then(|| strip(rng, height)));
     state.serial = rng.percent(50).then(|| (rng.byte(), rng.byte()));
     (state.contrast, state.backlight, state.minutes) = (rng.byte(), rng.percent(50), rng.byte());
     state.flow = rng.percent(60);

@@ -1,9 +1,9 @@
 //! The two records as bytes. A record is sound exactly when it is the encoding of a sound state or queue.
 
 use reference::queue::{Queue, RING};
-use reference::state::{Bar, Gathering, Inline, Kind, State, Strip, Text, Upload};
+use reference::state::{Bar, Gathering, Inline, Kind, Lent, State, Strip, Text, Upload};
 
-pub const STATE_BYTES: usize = 201;
+pub const STATE_BYTES: usize = 202;
 pub const QUEUE_BYTES: usize = 85;
 
 pub const PHASE: usize = 0;
@@ -16,12 +16,13 @@ pub const TEXT: usize = 23;
 pub const DRAWING: usize = 34;
 pub const FLOW: usize = 37;
 pub const REFUSALS: usize = 40;
-pub const BARS: usize = 43;
-pub const STRIPS: usize = 155;
-pub const SERIAL: usize = 195;
-pub const CONTRAST: usize = 198;
-pub const BACKLIGHT: usize = 199;
-pub const MINUTES: usize = 200;
+pub const HEIGHT: usize = 43;
+pub const BARS: usize = 44;
+pub const STRIPS: usize = 156;
+pub const SERIAL: usize = 196;
+pub const CONTRAST: usize = 199;
+pub const BACKLIGHT: usize = 200;
+pub const MINUTES: usize = 201;
 
 pub const PLACE: usize = 80;
 pub const HELD: usize = 81;
@@ -59,6 +60,7 @@ pub fn encode_state(state: &State) -> [u8; STATE_BYTES] {
     r[FLOW..REFUSALS].copy_from_slice(&[state.flow as u8, state.full, state.empty]);
     r[REFUSALS..REFUSALS + 2].copy_from_slice(&split(state.refusals));
     r[REFUSALS + 2] = state.last_refusal;
+    r[HEIGHT] = state.height;
     for (bar, bytes) in state.bars.iter().zip(r[BARS..STRIPS].chunks_mut(7)) {
         if let Some(b) = bar {
             bytes.copy_from_slice(&[1, b.side, b.x1, b.y1, b.x2, b.y2, b.value]);
@@ -118,6 +120,15 @@ fn unused(bytes: &[u8]) -> Option<()> {
     bytes.iter().all(|&byte| byte == 0).then_some(())
 }
 
+/// A record as a feed is lent it; `state` is what it decodes to.
+pub fn lent<'a>(record: &[u8], state: Option<&'a mut State>) -> Lent<'a> {
+    match state {
+        Some(state) => Lent::State(state),
+        None if record.len() == STATE_BYTES => Lent::Meaningless { height: record[HEIGHT] },
+        None => Lent::WrongLength,
+    }
+}
+
 /// `None` for a record that is not sound, thresholds included.
 pub fn decode_state(record: &[u8]) -> Option<State> {
     let r: &[u8; STATE_BYTES] = record.try_into().ok()?;
@@ -144,6 +155,7 @@ pub fn decode_state(record: &[u8]) -> Option<State> {
         None
     };
     let state = State {
+        height: r[HEIGHT],
         gathering: decode_gathering(r)?,
         inline: decode_inline(r)?,
         upload: decode_upload(r)?,
@@ -269,7 +281,8 @@ pub fn state_place(place: usize) -> String {
         }
         DRAWING..FLOW => field(&["black", "line x", "line y"], DRAWING),
         FLOW..REFUSALS => field(&["flow on", "flow full", "flow empty"], FLOW),
-        REFUSALS..BARS => field(&["refusals low", "refusals high", "last refusal"], REFUSALS),
+        REFUSALS..HEIGHT => field(&["refusals low", "refusals high", "last refusal"], REFUSALS),
+        HEIGHT => "height".into(),
         BARS..STRIPS => {
             let names = ["on", "kind", "x1", "y1", "x2", "y2", "value"];
             format!("bar {} {}", (place - BARS) / 7, names[(place - BARS) % 7])

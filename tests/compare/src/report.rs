@@ -58,6 +58,7 @@ fn one(failure: &Failure) -> String {
             format!("feed of {} bytes {:?}{end}, room {}", bytes.len(), &bytes[..bytes.len().min(64)], failure.room)
         }
         "arrive" => format!("arrive of {}", failure.byte),
+        "start" => format!("start with height {}", failure.height),
         name => name.into(),
     };
     format!("{what}: {}", failure.difference)

@@ -2,10 +2,12 @@
 
 use crate::memory::Memory;
 use crate::random::{bytes, edge};
+use crate::record::HEIGHT;
 use reference::case_file::upload;
 use reference::commands::COMMANDS;
 use reference::files::Files;
-use reference::generator_files::{good_bitmap, good_font};
+use reference::generator_files::{bad_font, good_bitmap, good_font};
+use reference::glass::{HEIGHTS, LOW};
 use reference::prng::Prng;
 use reference::state::Kind;
 
@@ -15,6 +17,7 @@ pub fn commands(rng: &mut Prng, memory: &Memory) -> Vec<u8> {
         Some(files) => files.list.iter().map(|file| (file.kind, file.number)).collect(),
         None => Vec::new(),
     };
+    let height = memory.state.get(HEIGHT).copied().filter(|height| HEIGHTS.contains(height)).unwrap_or(LOW);
     let mut stream = Vec::new();
     let pieces = rng.between(5, 80);
     for _ in 0..pieces {
@@ -23,10 +26,19 @@ pub fn commands(rng: &mut Prng, memory: &Memory) -> Vec<u8> {
             4 | 5 => characters(rng, &mut stream),
             6 => known_file(rng, &files, &mut stream),
             7 => {
-                let (code, file) = if rng.percent(50) { (36, good_font(rng)) } else { (94, good_bitmap(rng)) };
-                stream.extend(upload(code, edge(rng), &file));
+                let (code, file) = match rng.below(8) {
+                    0 => (36, bad_font(rng, height)),
+                    1..=3 => (36, good_font(rng, height)),
+                    _ => (94, good_bitmap(rng)),
+                };
+                let number = edge(rng);
+                stream.extend(upload(code, number, &file));
+                if code == 36 && rng.percent(50) {
+                    stream.extend([254, 49, number]);
+                    characters(rng, &mut stream);
+                }
             }
-            8 => on_the_glass(rng, &mut stream),
+            8 => on_the_glass(rng, height as usize, &mut stream),
             9 => {
                 // enough to end whatever is under way, most often
                 let count = rng.pick(&[1, 2, 8, 40]);
@@ -68,9 +80,9 @@ fn known_file(rng: &mut Prng, files: &[(Kind, u8)], stream: &mut Vec<u8>) {
 }
 
 /// Bars, strips and shapes whose corners are good ones.
-fn on_the_glass(rng: &mut Prng, stream: &mut Vec<u8>) {
-    let (x1, y1) = (rng.below(239), rng.below(63));
-    let (x2, y2) = (rng.between(x1 + 1, 239), rng.between(y1 + 1, 63));
+fn on_the_glass(rng: &mut Prng, height: usize, stream: &mut Vec<u8>) {
+    let (x1, y1) = (rng.below(239), rng.below(height - 1));
+    let (x2, y2) = (rng.between(x1 + 1, 239), rng.between(y1 + 1, height - 1));
     let corners = [x1 as u8, y1 as u8, x2 as u8, y2 as u8];
     let (bar, strip) = (rng.below(16) as u8, rng.below(8) as u8);
     match rng.below(4) {

@@ -5,7 +5,7 @@ use reference::calls::run_list;
 use reference::case_file::{folder, read_all};
 use reference::checks;
 use reference::coverage::Coverage;
-use reference::generator::program_stream;
+use reference::generator::{height_of, program_stream};
 use reference::listing::listing_of_stream;
 use reference::mutants::{with, Mutant, ALL};
 use reference::properties::scenes;
@@ -28,8 +28,8 @@ fn main() {
     let checks = checks::all();
     let scenes: Vec<_> = scenes(&font, SCENES).map(|scene| (trace(&scene), scene)).collect();
     let streams: Vec<_> = (0..PROGRAM_STREAMS)
-        .map(|seed| program_stream(&font, 1_000_000 + seed))
-        .map(|stream| (listing_of_stream(&font, &stream), stream))
+        .map(|seed| (height_of(seed), program_stream(&font, height_of(seed), 1_000_000 + seed)))
+        .map(|(height, stream)| (listing_of_stream(&font, height, &stream), height, stream))
         .collect();
     let mut unnoticed = Vec::new();
     let mut by_streams_only = 0;
@@ -37,7 +37,7 @@ fn main() {
     for &mutant in ALL {
         let by_case: Vec<&str> = cases
             .iter()
-            .filter(|case| attempt(mutant, || listing_of_stream(&font, &case.input)) != Some(case.expected.clone()))
+            .filter(|case| attempt(mutant, || listing_of_stream(&font, case.height, &case.input)) != Some(case.expected.clone()))
             .map(|case| &case.name[..])
             .collect();
         let by_check: Vec<&str> = checks
@@ -48,7 +48,10 @@ fn main() {
         let by_scene = scenes.iter().filter(|(right, scene)| attempt(mutant, || trace(scene)).as_ref() != Some(right)).count();
         let by_stream = streams
             .iter()
-            .filter(|(right, stream)| attempt(mutant, || listing_of_stream(&font, stream)).as_ref() != Some(right))
+            .filter(|(right, height, stream)| {
+                let list = || listing_of_stream(&font, *height, stream);
+                attempt(mutant, list).as_ref() != Some(right)
+            })
             .count();
         let by_streams = by_scene + by_stream;
         let by_book = scenes

@@ -1,10 +1,10 @@
-//! Prints streams, each with what the book says after it: the bytes, a colon, and for each of the 16 bars 1 where it is sure, else 0.
-//! Only streams in which a bar was sure for a while. The argument is how many.
+//! Prints streams, each with its height and with what the book says after it: the height, a colon, the bytes, a colon, and for each of the 16 bars 1
+//! where it is sure, else 0. Only streams in which a bar was sure for a while. The argument is how many.
 
 use reference::board::Board;
 use reference::book::Book;
 use reference::builtin::built_in_font;
-use reference::generator::small_stream;
+use reference::generator::{height_of, small_stream};
 
 /// Longer ones are cut off here.
 const LONGEST: usize = 160;
@@ -17,9 +17,9 @@ fn main() {
         if printed == count {
             return;
         }
-        let mut stream = small_stream(&font, seed);
+        let mut stream = small_stream(&font, height_of(seed), seed);
         stream.truncate(LONGEST);
-        let mut board = Board::fresh(&font, vec![0; 1024]);
+        let mut board = Board::fresh(&font, height_of(seed), vec![0; 1024]);
         let mut book = Book::open(&board.glass, &board.store, &board.state);
         let mut ever = false;
         board.feed_watched(&stream, 2 * stream.len(), &mut |step, glass, files, state| {
@@ -29,7 +29,7 @@ fn main() {
         if ever {
             let bytes: Vec<String> = stream.iter().map(u8::to_string).collect();
             let sure: Vec<&str> = book.sure().iter().map(|&sure| if sure { "1" } else { "0" }).collect();
-            println!("{} : {}", bytes.join(" "), sure.join(" "));
+            println!("{} : {} : {}", height_of(seed), bytes.join(" "), sure.join(" "));
             printed += 1;
         }
     }

@@ -9,17 +9,17 @@ use Rattle.record.specs.Reading.{panelOf}
 use Rattle.rules.specs.World.{world}
 use Rattle.outcome.specs.Contract.{held}
 use Rattle.display.specs.Running.{Written}
-use Rattle.display.proofs.Feeding.{Feeding, feeding-start, feeding-step, feeding-stop, feeding-end, room-known, tall, stepped}
+use Rattle.display.proofs.Feeding.{Feeding, feeding-start, feeding-step, feeding-stop, feeding-end, room-known, stepped}
 use Rattle.display.proofs.run.Statement.{statement}
 use Rattle.display.proofs.run.Tie as tie
 
 abbrev Inv-loop : tie.InvT-loop
-Inv-loop framebuffer₀ store₀ panel₀ piece replies₀ p₀ i₀ at₀ framebuffer store panel replies p i at =
+Inv-loop framebuffer₀ store₀ panel₀ height piece replies₀ p₀ i₀ at₀ framebuffer store panel replies p i at =
     (length framebuffer ≡ length framebuffer₀) × (length store ≡ length store₀) × (length panel ≡ length panel₀) × (length replies ≡ length replies₀)
-    × Feeding (world framebuffer₀ store₀ (state p₀ (panelOf panel₀))) piece replies₀ (world framebuffer store (state p (panelOf panel))) replies at i × Written panel
+    × Feeding (world framebuffer₀ store₀ (state height p₀ (panelOf panel₀))) piece replies₀ (world framebuffer store (state height p (panelOf panel))) replies at i × Written panel
 
 abbrev μ-loop : tie.MeasureT-loop
-μ-loop framebuffer₀ store₀ panel₀ piece replies₀ p₀ i₀ at₀ framebuffer store panel replies p i at = length piece - i
+μ-loop framebuffer₀ store₀ panel₀ height piece replies₀ p₀ i₀ at₀ framebuffer store panel replies p i at = length piece - i
 
 loop-holds : tie.Need-loop-holds Inv-loop μ-loop
 loop-holds c = (refl, refl, refl, refl, feeding-start _ _ _ (c .before .before .before .before .before .pre .0), c .before .before .before .before .before .pre .1)
@@ -52,13 +52,13 @@ send-requires : tie.Need-send-requires Inv-loop μ-loop
 send-requires c κs = omega (arith, room-known (c .before .before .before .before .before .before .before .before .before .before .before .before .before .before .loop .inv .4) .1, c .before .before .before .before .before .before .before .before .before .before .before .before .if1 .left)
 
 add-i : tie.Need-add-i Inv-loop μ-loop
-add-i c = omega (arith, c .before .before .before .before .before .before .before .before .before .before .before .before .before .before .before .before .before .loop-test .taken, c .before .before .before .before .before .before .before .before .before .before .before .before .before .before .before .before .before .before .before .before .before .before .before .before .good .1 .1 .1 .1 .0 .0)
+add-i c = omega (arith, c .before .before .before .before .before .before .before .before .before .before .before .before .before .before .before .before .before .loop-test .taken, c .before .before .before .before .before .before .before .before .before .before .before .before .before .before .before .before .before .before .before .before .before .before .before .before .good .1 .1 .1 .1 .1 .0 .0)
 
 loop-less : tie.Need-loop-less Inv-loop μ-loop
 loop-less c = search needs
 
 loop-again : tie.Need-loop-again Inv-loop μ-loop
-loop-again c = let s = stepped (held _ _ _ _) (held _ _ _ _) _ _ (c .before .before .before .before .before .before .before .before .before .before .before .before .before .before .before .before .before .before .loop .inv .4 .kept) (c .before .before .before .before .before .before .before .before .before .before .before .before .before .before .before .before .before .before .before .before .shared-slice-known .given _ .fits) (c .before .before .before .before .before .before .before .before .before .before .before .before .before .before .before .before .before .before .loop .inv .5) (c .before .before .before .before .before .before .before .before .before .before .before .step .ensures .came [] [] [] (tall _ (c .before .before .before .before .before .before .before .before .before .before .before .before .before .before .before .before .before .before .loop .inv .4 .kept))) in (search needs, search needs, search needs, search needs, feeding-step _ _ _ _ _ (c .before .before .before .before .before .before .before .before .before .before .before .before .before .before .before .before .before .before .loop .inv .4) (search needs) refl (c .before .before .before .before .before .before .before .before .before .before .before .before .before .before .before .before .before .before .before .before .shared-slice-known .given _ .fits) (search needs) (s .next) (s .sends) (c .before .before .before .send .ensures .0) (c .before .before .before .send .ensures .1), s .written)
+loop-again c = let s = stepped (held _ _ _ _ _) (held _ _ _ _ _) _ _ (c .before .before .before .before .before .before .before .before .before .before .before .before .before .before .before .before .before .before .loop .inv .4 .kept) (c .before .before .before .before .before .before .before .before .before .before .before .before .before .before .before .before .before .before .before .before .shared-slice-known .given _ .fits) (c .before .before .before .before .before .before .before .before .before .before .before .before .before .before .before .before .before .before .loop .inv .5) (c .before .before .before .before .before .before .before .before .before .before .before .step .ensures .came 0 [] [] []) in (search needs, search needs, search needs, search needs, feeding-step _ _ _ _ _ (c .before .before .before .before .before .before .before .before .before .before .before .before .before .before .before .before .before .before .loop .inv .4) (search needs) refl (c .before .before .before .before .before .before .before .before .before .before .before .before .before .before .before .before .before .before .before .before .shared-slice-known .given _ .fits) (search needs) (s .next) (s .sends) (c .before .before .before .send .ensures .0) (c .before .before .before .send .ensures .1), s .written)
 
 same-length-5 : tie.Need-same-length-5 Inv-loop μ-loop
 same-length-5 c = search needs

@@ -1,4 +1,7 @@
-use Rattle.display.proofs.Ways.{lent-ready, ran-on}
+-- `run_on` meets its contract.
+-- Assumes nothing.
+use mathlib.Core.Path.{refl}
+use Rattle.display.proofs.Ways.{lent-ready, ran-none, ran-on}
 use borrow.Author.Needs.{needs}
 use Rattle.display.proofs.run_on.Statement.{statement}
 use Rattle.display.proofs.run_on.Tie as tie
@@ -13,10 +16,7 @@ part-run-end : tie.Need-part-run-end
 part-run-end c = search needs
 
 run-requires : tie.Need-run-requires
-run-requires c κs = lent-ready _ _ (c .before .before .before .before .before .before .before .before .before .args .«record» .now) _ (c .before .before .before .before .before .before .before .before .before .pre)
-
-encode-port-requires : tie.Need-encode-port-requires
-encode-port-requires c κs = search needs
+run-requires c κs = lent-ready _ _ (c .before .before .before .before .before .before .before .before .before .args .«record» .now) _ _ (c .before .before .before .before .before .before .before .before .before .pre)
 
 same-length : tie.Need-same-length
 same-length c = search needs
@@ -31,7 +31,25 @@ same-length-4 : tie.Need-same-length-4
 same-length-4 c = search needs
 
 returns : tie.Need-returns
-returns c = ran-on _ _ _ _ _ _ _ _ _ _ _ _ _ _ _ (c .before .before .before .before .before .before .before .before .before .before .before .before .before .before .before .before .before .before .before .before .before .before .before .pre .2) (c .before .before .before .before .before .before .before .before .before .before .before .before .before .run .ensures .0) (c .before .before .before .before .before .before .before .before .before .before .before .before .before .run .ensures .1) (c .before .before .encode-port .ensures .1) (c .before .before .encode-port .ensures .0)
+returns c = ran-none _ _ _ _ _ _ _ _ _ _ _ _ _ _ _ _ (c .before .before .before .before .before .before .before .before .before .before .before .before .before .before .before .before .before .before .before .before .pre .2) (c .before .before .before .before .before .before .before .before .before .before .before .before .before .before .before .before .before .before .before .before .pre .1) (c .before .before .before .before .before .before .before .before .before .before .before .before .before .before .before .before .before .before .before .before .pre .4) (search needs) (c .before .before .before .before .before .before .before .before .before .before .run .ensures .0) (c .before .before .before .before .before .before .before .before .before .before .run .ensures .1) refl
+
+encode-port-requires : tie.Need-encode-port-requires
+encode-port-requires c κs = search needs
+
+same-length-5 : tie.Need-same-length-5
+same-length-5 c = search needs
+
+same-length-6 : tie.Need-same-length-6
+same-length-6 c = search needs
+
+same-length-7 : tie.Need-same-length-7
+same-length-7 c = search needs
+
+same-length-8 : tie.Need-same-length-8
+same-length-8 c = search needs
+
+returns-2 : tie.Need-returns-2
+returns-2 c = ran-on _ _ _ _ _ _ _ _ _ _ _ _ _ _ _ _ (c .before .before .before .before .before .before .before .before .before .before .before .before .before .before .before .before .before .before .before .before .before .before .before .before .before .pre .2) (c .before .before .before .before .before .before .before .before .before .before .before .before .before .before .before .before .before .before .before .before .before .before .before .before .before .pre .3) (c .before .before .before .before .before .before .before .before .before .before .before .before .before .before .before .run .ensures .0) (c .before .before .before .before .before .before .before .before .before .before .before .before .before .before .before .run .ensures .1) (c .before .before .encode-port .ensures .1) (c .before .before .encode-port .ensures .0)
 
 pub run-on-spec : {M : Type 1} → statement M
 run-on-spec =
@@ -41,9 +59,14 @@ run-on-spec =
     part-run-start
     part-run-end
     run-requires
-    encode-port-requires
     same-length
     same-length-2
     same-length-3
     same-length-4
-    returns)
+    returns
+    encode-port-requires
+    same-length-5
+    same-length-6
+    same-length-7
+    same-length-8
+    returns-2)

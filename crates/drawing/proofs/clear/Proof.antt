@@ -21,7 +21,7 @@ same-length : tie.Need-same-length
 same-length c = search needs
 
 returns : tie.Need-returns
-returns c = obeys-done _ (done-with (c .before .put-text .ensures) (c .done .ensures)) (λ p. refl) (λ g s p t. clear-is _ _ _ _ (c .before .before .before .before .before .before .clear .ensures))
+returns c = obeys-done _ (done-with (c .before .put-text .ensures) (c .done .ensures)) (λ p. refl) (λ h g s p. clear-is _ _ _ _ (c .before .before .before .before .before .before .clear .ensures))
 
 pub clear-spec : {M : Type 1} → statement M
 clear-spec =

@@ -18,7 +18,7 @@ same-length : tie.Need-same-length
 same-length c = search needs
 
 returns : tie.Need-returns
-returns c = obeys-done _ (done-with (c .before .with-drawing .ensures) (c .done .ensures)) (λ p. refl) (λ g s p t. line-is _ _ _ _ _ _ _ _ (c .before .before .before .before .draw-line .ensures))
+returns c = obeys-done _ (done-with (c .before .with-drawing .ensures) (c .done .ensures)) (λ p. refl) (λ h g s p. line-is _ _ _ _ _ _ _ _ (c .before .before .before .before .draw-line .ensures))
 
 pub draw-line-spec : {M : Type 1} → statement M
 draw-line-spec =

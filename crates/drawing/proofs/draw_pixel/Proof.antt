@@ -15,7 +15,7 @@ same-length : tie.Need-same-length
 same-length c = search needs
 
 returns : tie.Need-returns
-returns c = obeys-done _ (c .done .ensures) (λ p. refl) (λ g s p t. pixel-is _ _ _ _ _ _ (c .before .before .before .plot .ensures))
+returns c = obeys-done _ (c .done .ensures) (λ p. refl) (λ h g s p. pixel-is _ _ _ _ _ _ (c .before .before .before .plot .ensures))
 
 pub draw-pixel-spec : {M : Type 1} → statement M
 draw-pixel-spec = tie.close (tie.spec plot-requires done-requires same-length returns)

@@ -15,7 +15,7 @@ done-requires : tie.Need-done-requires
 done-requires c κs = search needs
 
 returns : tie.Need-returns
-returns c = obeys-done _ (done-with (c .before .with-drawing .ensures) (c .done .ensures)) (λ p. refl) (λ g s p t. colour-is _ _ _ (c .before .before .before .from-byte .ensures))
+returns c = obeys-done _ (done-with (c .before .with-drawing .ensures) (c .done .ensures)) (λ p. refl) (λ h g s p. colour-is _ _ _ (c .before .before .before .from-byte .ensures))
 
 pub set-colour-spec : {M : Type 1} → statement M
 set-colour-spec =

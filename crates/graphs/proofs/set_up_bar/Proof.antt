@@ -12,13 +12,13 @@ refused-requires : tie.Need-refused-requires
 refused-requires c κs = search needs
 
 returns : tie.Need-returns
-returns c = obeys-refused 19 (c .refused .ensures) (λ g s p. refl) (λ g s p t. bar-19 _ _ _ _ _ _ _ _ _ _ _ _ t (c .before .before .wide .ensures .0) (search needs))
+returns c = obeys-refused 19 (c .refused .ensures) (λ h g s p. refl) (λ h g s p. bar-19 _ _ _ _ _ _ _ _ _ _ _ _ (c .before .before .wide .ensures .0) (search needs))
 
 refused-requires-2 : tie.Need-refused-requires-2
 refused-requires-2 c κs = search needs
 
 returns-2 : tie.Need-returns-2
-returns-2 c = obeys-refused 20 (c .refused2 .ensures) (λ g s p. refl) (λ g s p t. bar-20 _ _ _ _ _ _ _ _ _ _ _ _ t (c .before .before .before .wide .ensures .0) (search needs) (search needs))
+returns-2 c = obeys-refused 20 (c .refused2 .ensures) (λ h g s p. refl) (λ h g s p. bar-20 _ _ _ _ _ _ _ _ _ _ _ _ (c .before .before .before .wide .ensures .0) (search needs) (search needs))
 
 is-in-bounds-requires : tie.Need-is-in-bounds-requires
 is-in-bounds-requires c κs = search needs
@@ -27,7 +27,7 @@ refused-requires-3 : tie.Need-refused-requires-3
 refused-requires-3 c κs = search needs
 
 returns-3 : tie.Need-returns-3
-returns-3 c = obeys-refused 17 (c .refused3 .ensures) (λ g s p. refl) (λ g s p t. bar-17 _ _ _ _ _ _ _ _ _ _ _ _ t (c .before .before .before .before .before .wide .ensures .0) _ (search needs) (search needs) (c .before .before .is-in-bounds .ensures) (search needs))
+returns-3 c = obeys-refused 17 (c .refused3 .ensures) (λ h g s p. refl) (λ h g s p. bar-17 _ _ _ _ _ _ _ _ _ _ _ _ (c .before .before .before .before .before .wide .ensures .0) _ (search needs) (search needs) (c .before .before .is-in-bounds .ensures) (search needs))
 
 is-apart-requires : tie.Need-is-apart-requires
 is-apart-requires c κs = search needs
@@ -36,7 +36,7 @@ refused-requires-4 : tie.Need-refused-requires-4
 refused-requires-4 c κs = search needs
 
 returns-4 : tie.Need-returns-4
-returns-4 c = obeys-refused 18 (c .refused4 .ensures) (λ g s p. refl) (λ g s p t. bar-18 _ _ _ _ _ _ _ _ _ _ _ _ t (c .before .before .before .before .before .before .before .wide .ensures .0) _ _ (search needs) (search needs) (c .before .before .before .before .is-in-bounds .ensures) (search needs) (c .before .before .is-apart .ensures) (search needs))
+returns-4 c = obeys-refused 18 (c .refused4 .ensures) (λ h g s p. refl) (λ h g s p. bar-18 _ _ _ _ _ _ _ _ _ _ _ _ (c .before .before .before .before .before .before .before .wide .ensures .0) _ _ (search needs) (search needs) (c .before .before .before .before .is-in-bounds .ensures) (search needs) (c .before .before .is-apart .ensures) (search needs))
 
 set-bar-requires : tie.Need-set-bar-requires
 set-bar-requires c κs = search needs
@@ -48,7 +48,7 @@ same-length : tie.Need-same-length
 same-length c = search needs
 
 returns-5 : tie.Need-returns-5
-returns-5 c = obeys-set _ _ (c .done .ensures) (λ p. c .before .before .before .set-bar .ensures) (λ g s p t. bar-done _ _ _ _ _ _ _ _ _ _ _ _ t (c .before .before .before .before .before .before .before .before .before .before .before .wide .ensures .0) _ _ (search needs) (search needs) (c .before .before .before .before .before .before .before .before .is-in-bounds .ensures) (search needs) (c .before .before .before .before .before .before .is-apart .ensures) (search needs))
+returns-5 c = obeys-set _ _ (c .done .ensures) (λ p. c .before .before .before .set-bar .ensures) (λ h g s p. bar-done _ _ _ _ _ _ _ _ _ _ _ _ (c .before .before .before .before .before .before .before .before .before .before .before .wide .ensures .0) _ _ (search needs) (search needs) (c .before .before .before .before .before .before .before .before .is-in-bounds .ensures) (search needs) (c .before .before .before .before .before .before .is-apart .ensures) (search needs))
 
 pub set-up-bar-spec : {M : Type 1} → statement M
 set-up-bar-spec =

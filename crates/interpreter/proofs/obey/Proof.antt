@@ -411,102 +411,102 @@ set-serial-requires c κs = search needs
 
 returns : tie.Need-returns
 unfolding obey
-returns c = obeys-command (c .before .before .before .before .before .before .args .command) Unknown _ (search needs) (obeys-unknown (c .refused .ensures)) (λ g h. tt) (λ g s p. refl) (λ g s q. refl)
+returns c = obeys-command (c .before .before .before .before .before .before .args .command) Unknown _ (search needs) (obeys-unknown (c .refused .ensures)) (λ h g s p. refl) (λ h g s q. refl)
 
 same-length : tie.Need-same-length
 same-length c = search needs
 
 returns-2 : tie.Need-returns-2
 unfolding obey
-returns-2 c = obeys-command (c .before .before .before .before .before .before .before .before .before .args .command) Clear _ (search needs) (c .before .before .clear .ensures) (λ g h. tt) (λ g s p. refl) (λ g s q. refl)
+returns-2 c = obeys-command (c .before .before .before .before .before .before .before .before .before .args .command) Clear _ (search needs) (c .before .before .clear .ensures) (λ h g s p. refl) (λ h g s q. refl)
 
 returns-3 : tie.Need-returns-3
 unfolding obey
-returns-3 c = obeys-command (c .before .before .before .before .before .before .args .command) Home _ (search needs) (c .home .ensures) (λ g h. tt) (λ g s p. refl) (λ g s q. refl)
+returns-3 c = obeys-command (c .before .before .before .before .before .before .args .command) Home _ (search needs) (c .home .ensures) (λ h g s p. refl) (λ h g s q. refl)
 
 returns-4 : tie.Need-returns-4
 unfolding obey
-returns-4 c = obeys-command (c .before .before .before .before .before .before .args .command) SetPoint _ (search needs) (c .set-point .ensures) (λ g h. tt) (λ g s p. refl) (λ g s q. refl)
+returns-4 c = obeys-command (c .before .before .before .before .before .before .args .command) SetPoint _ (search needs) (c .set-point .ensures) (λ h g s p. refl) (λ h g s q. refl)
 
 same-length-2 : tie.Need-same-length-2
 same-length-2 c = search needs
 
 returns-5 : tie.Need-returns-5
 unfolding obey
-returns-5 c = obeys-command (c .before .before .before .before .before .before .before .args .command) SetPlace _ (search needs) (c .set-place .ensures) (λ g h. h) (λ g s p. refl) (λ g s q. refl)
+returns-5 c = obeys-command (c .before .before .before .before .before .before .before .args .command) SetPlace _ (search needs) (c .set-place .ensures) (λ h g s p. refl) (λ h g s q. refl)
 
 returns-6 : tie.Need-returns-6
 unfolding obey
-returns-6 c = obeys-command (c .before .before .before .before .before .before .args .command) WrapOn _ (search needs) (c .set-wrap .ensures) (λ g h. tt) (λ g s p. refl) (λ g s q. refl)
+returns-6 c = obeys-command (c .before .before .before .before .before .before .args .command) WrapOn _ (search needs) (c .set-wrap .ensures) (λ h g s p. refl) (λ h g s q. refl)
 
 returns-7 : tie.Need-returns-7
 unfolding obey
-returns-7 c = obeys-command (c .before .before .before .before .before .before .args .command) WrapOff _ (search needs) (c .set-wrap2 .ensures) (λ g h. tt) (λ g s p. refl) (λ g s q. refl)
+returns-7 c = obeys-command (c .before .before .before .before .before .before .args .command) WrapOff _ (search needs) (c .set-wrap2 .ensures) (λ h g s p. refl) (λ h g s q. refl)
 
 returns-8 : tie.Need-returns-8
 unfolding obey
-returns-8 c = obeys-command (c .before .before .before .before .before .before .args .command) ScrollOn _ (search needs) (c .set-scroll .ensures) (λ g h. tt) (λ g s p. refl) (λ g s q. refl)
+returns-8 c = obeys-command (c .before .before .before .before .before .before .args .command) ScrollOn _ (search needs) (c .set-scroll .ensures) (λ h g s p. refl) (λ h g s q. refl)
 
 returns-9 : tie.Need-returns-9
 unfolding obey
-returns-9 c = obeys-command (c .before .before .before .before .before .before .args .command) ScrollOff _ (search needs) (c .set-scroll2 .ensures) (λ g h. tt) (λ g s p. refl) (λ g s q. refl)
+returns-9 c = obeys-command (c .before .before .before .before .before .before .args .command) ScrollOff _ (search needs) (c .set-scroll2 .ensures) (λ h g s p. refl) (λ h g s q. refl)
 
 same-length-3 : tie.Need-same-length-3
 same-length-3 c = search needs
 
 returns-10 : tie.Need-returns-10
 unfolding obey
-returns-10 c = obeys-command (c .before .before .before .before .before .before .before .args .command) ChooseFont _ (search needs) (c .choose-font .ensures) (λ g h. h) (λ g s p. refl) (λ g s q. refl)
+returns-10 c = obeys-command (c .before .before .before .before .before .before .before .args .command) ChooseFont _ (search needs) (c .choose-font .ensures) (λ h g s p. refl) (λ h g s q. refl)
 
 returns-11 : tie.Need-returns-11
 unfolding obey
-returns-11 c = obeys-command (c .before .before .before .before .before .before .args .command) SetMetrics _ (search needs) (c .set-metrics .ensures) (λ g h. tt) (λ g s p. refl) (λ g s q. refl)
+returns-11 c = obeys-command (c .before .before .before .before .before .before .args .command) SetMetrics _ (search needs) (c .set-metrics .ensures) (λ h g s p. refl) (λ h g s q. refl)
 
 returns-12 : tie.Need-returns-12
 unfolding obey
-returns-12 c = obeys-command (c .before .before .before .before .before .before .args .command) SetColour _ (search needs) (c .set-colour .ensures) (λ g h. tt) (λ g s p. refl) (λ g s q. refl)
+returns-12 c = obeys-command (c .before .before .before .before .before .before .args .command) SetColour _ (search needs) (c .set-colour .ensures) (λ h g s p. refl) (λ h g s q. refl)
 
 same-length-4 : tie.Need-same-length-4
 same-length-4 c = search needs
 
 returns-13 : tie.Need-returns-13
 unfolding obey
-returns-13 c = obeys-command (c .before .before .before .before .before .before .before .before .before .args .command) DrawPixel _ (search needs) (c .before .before .draw-pixel .ensures) (λ g h. tt) (λ g s p. refl) (λ g s q. refl)
+returns-13 c = obeys-command (c .before .before .before .before .before .before .before .before .before .args .command) DrawPixel _ (search needs) (c .before .before .draw-pixel .ensures) (λ h g s p. refl) (λ h g s q. refl)
 
 same-length-5 : tie.Need-same-length-5
 same-length-5 c = search needs
 
 returns-14 : tie.Need-returns-14
 unfolding obey
-returns-14 c = obeys-command (c .before .before .before .before .before .before .before .before .before .args .command) DrawLine _ (search needs) (c .before .before .draw-line .ensures) (λ g h. tt) (λ g s p. refl) (λ g s q. refl)
+returns-14 c = obeys-command (c .before .before .before .before .before .before .before .before .before .args .command) DrawLine _ (search needs) (c .before .before .draw-line .ensures) (λ h g s p. refl) (λ h g s q. refl)
 
 same-length-6 : tie.Need-same-length-6
 same-length-6 c = search needs
 
 returns-15 : tie.Need-returns-15
 unfolding obey
-returns-15 c = obeys-command (c .before .before .before .before .before .before .before .before .before .before .args .command) ContinueLine _ (search needs) (c .before .before .draw-line2 .ensures) (λ g h. tt) (λ g s p. refl) (λ g s q. refl)
+returns-15 c = obeys-command (c .before .before .before .before .before .before .before .before .before .before .args .command) ContinueLine _ (search needs) (c .before .before .draw-line2 .ensures) (λ h g s p. refl) (λ h g s q. refl)
 
 same-length-7 : tie.Need-same-length-7
 same-length-7 c = search needs
 
 returns-16 : tie.Need-returns-16
 unfolding obey
-returns-16 c = obeys-command (c .before .before .before .before .before .before .before .before .before .args .command) DrawFrame _ (search needs) (c .before .before .draw-frame .ensures) (λ g h. tt) (λ g s p. refl) (λ g s q. refl)
+returns-16 c = obeys-command (c .before .before .before .before .before .before .before .before .before .args .command) DrawFrame _ (search needs) (c .before .before .draw-frame .ensures) (λ h g s p. refl) (λ h g s q. refl)
 
 same-length-8 : tie.Need-same-length-8
 same-length-8 c = search needs
 
 returns-17 : tie.Need-returns-17
 unfolding obey
-returns-17 c = obeys-command (c .before .before .before .before .before .before .before .before .before .args .command) FillRectangle _ (search needs) (c .before .before .fill-rectangle .ensures) (λ g h. tt) (λ g s p. refl) (λ g s q. refl)
+returns-17 c = obeys-command (c .before .before .before .before .before .before .before .before .before .args .command) FillRectangle _ (search needs) (c .before .before .fill-rectangle .ensures) (λ h g s p. refl) (λ h g s q. refl)
 
 same-length-9 : tie.Need-same-length-9
 same-length-9 c = search needs
 
 returns-18 : tie.Need-returns-18
 unfolding obey
-returns-18 c = obeys-command (c .before .before .before .before .before .before .before .before .before .args .command) SetUpBar _ (search needs) (c .before .before .set-up-bar .ensures) (λ g h. h) (λ g s p. refl) (λ g s q. refl)
+returns-18 c = obeys-command (c .before .before .before .before .before .before .before .before .before .args .command) SetUpBar _ (search needs) (c .before .before .set-up-bar .ensures) (λ h g s p. refl) (λ h g s q. refl)
 
 same-length-10 : tie.Need-same-length-10
 same-length-10 c = search needs
@@ -516,14 +516,14 @@ same-length-11 c = search needs
 
 returns-19 : tie.Need-returns-19
 unfolding obey
-returns-19 c = obeys-command (c .before .before .before .before .before .before .before .before .before .before .before .before .args .command) WriteBar _ (search needs) (c .before .before .before .before .write-bar .ensures) (λ g h. tt) (λ g s p. refl) (λ g s q. refl)
+returns-19 c = obeys-command (c .before .before .before .before .before .before .before .before .before .before .before .before .args .command) WriteBar _ (search needs) (c .before .before .before .before .write-bar .ensures) (λ h g s p. refl) (λ h g s q. refl)
 
 same-length-12 : tie.Need-same-length-12
 same-length-12 c = search needs
 
 returns-20 : tie.Need-returns-20
 unfolding obey
-returns-20 c = obeys-command (c .before .before .before .before .before .before .before .before .before .args .command) SetUpStrip _ (search needs) (c .before .before .set-up-strip .ensures) (λ g h. h) (λ g s p. refl) (λ g s q. refl)
+returns-20 c = obeys-command (c .before .before .before .before .before .before .before .before .before .args .command) SetUpStrip _ (search needs) (c .before .before .set-up-strip .ensures) (λ h g s p. refl) (λ h g s q. refl)
 
 same-length-13 : tie.Need-same-length-13
 same-length-13 c = search needs
@@ -533,7 +533,7 @@ same-length-14 c = search needs
 
 returns-21 : tie.Need-returns-21
 unfolding obey
-returns-21 c = obeys-command (c .before .before .before .before .before .before .before .before .before .before .args .command) ShiftStrip _ (search needs) (c .before .before .shift-strip .ensures) (λ g h. tt) (λ g s p. refl) (λ g s q. refl)
+returns-21 c = obeys-command (c .before .before .before .before .before .before .before .before .before .before .args .command) ShiftStrip _ (search needs) (c .before .before .shift-strip .ensures) (λ h g s p. refl) (λ h g s q. refl)
 
 same-length-15 : tie.Need-same-length-15
 same-length-15 c = search needs
@@ -543,75 +543,75 @@ same-length-16 c = search needs
 
 returns-22 : tie.Need-returns-22
 unfolding obey
-returns-22 c = obeys-command (c .before .before .before .before .before .before .before .before .before .before .args .command) ShowBitmap _ (search needs) (c .before .before .show-bitmap .ensures) (λ g h. tt) (λ g s p. refl) (λ g s q. refl)
+returns-22 c = obeys-command (c .before .before .before .before .before .before .before .before .before .before .args .command) ShowBitmap _ (search needs) (c .before .before .show-bitmap .ensures) (λ h g s p. refl) (λ h g s q. refl)
 
 returns-23 : tie.Need-returns-23
 unfolding obey
-returns-23 c = obeys-command (c .before .before .before .before .before .before .args .command) DrawInline _ (search needs) (c .begin-inline .ensures) (λ g h. tt) (λ g s p. refl) (λ g s q. refl)
+returns-23 c = obeys-command (c .before .before .before .before .before .before .args .command) DrawInline _ (search needs) (c .begin-inline .ensures) (λ h g s p. refl) (λ h g s q. refl)
 
 same-length-17 : tie.Need-same-length-17
 same-length-17 c = search needs
 
 returns-24 : tie.Need-returns-24
 unfolding obey
-returns-24 c = obeys-command (c .before .before .before .before .before .before .before .before .args .command) UploadFont _ (search needs) (c .begin-upload .ensures) (λ g h. tt) (λ g s p. refl) (λ g s q. ap (beginUpload _ 1 _) (sym (c .before .size-of .ensures)))
+returns-24 c = obeys-command (c .before .before .before .before .before .before .before .before .args .command) UploadFont _ (search needs) (c .begin-upload .ensures) (λ h g s p. refl) (λ h g s q. ap (beginUpload _ 1 _) (sym (c .before .size-of .ensures)))
 
 same-length-18 : tie.Need-same-length-18
 same-length-18 c = search needs
 
 returns-25 : tie.Need-returns-25
 unfolding obey
-returns-25 c = obeys-command (c .before .before .before .before .before .before .before .before .args .command) UploadBitmap _ (search needs) (c .begin-upload2 .ensures) (λ g h. tt) (λ g s p. refl) (λ g s q. ap (beginUpload _ 2 _) (sym (c .before .size-of2 .ensures)))
+returns-25 c = obeys-command (c .before .before .before .before .before .before .before .before .args .command) UploadBitmap _ (search needs) (c .begin-upload2 .ensures) (λ h g s p. refl) (λ h g s q. ap (beginUpload _ 2 _) (sym (c .before .size-of2 .ensures)))
 
 same-length-19 : tie.Need-same-length-19
 same-length-19 c = search needs
 
 returns-26 : tie.Need-returns-26
 unfolding obey
-returns-26 c = obeys-command (c .before .before .before .before .before .before .before .before .before .args .command) DeleteFile _ (search needs) (c .before .before .delete-file .ensures) (λ g h. tt) (λ g s p. refl) (λ g s q. refl)
+returns-26 c = obeys-command (c .before .before .before .before .before .before .before .before .before .args .command) DeleteFile _ (search needs) (c .before .before .delete-file .ensures) (λ h g s p. refl) (λ h g s q. refl)
 
 same-length-20 : tie.Need-same-length-20
 same-length-20 c = search needs
 
 returns-27 : tie.Need-returns-27
 unfolding obey
-returns-27 c = obeys-command (c .before .before .before .before .before .before .before .before .before .args .command) Purge _ (search needs) (c .before .before .purge .ensures) (λ g h. h) (λ g s p. refl) (λ g s q. refl)
+returns-27 c = obeys-command (c .before .before .before .before .before .before .before .before .before .args .command) Purge _ (search needs) (c .before .before .purge .ensures) (λ h g s p. refl) (λ h g s q. refl)
 
 returns-28 : tie.Need-returns-28
 unfolding obey
-returns-28 c = obeys-command (c .before .before .before .before .before .before .args .command) FlowOn _ (search needs) (c .flow-on .ensures) (λ g h. tt) (λ g s p. refl) (λ g s q. refl)
+returns-28 c = obeys-command (c .before .before .before .before .before .before .args .command) FlowOn _ (search needs) (c .flow-on .ensures) (λ h g s p. refl) (λ h g s q. refl)
 
 returns-29 : tie.Need-returns-29
 unfolding obey
-returns-29 c = obeys-command (c .before .before .before .before .before .before .args .command) FlowOff _ (search needs) (c .flow-off .ensures) (λ g h. tt) (λ g s p. refl) (λ g s q. refl)
+returns-29 c = obeys-command (c .before .before .before .before .before .before .args .command) FlowOff _ (search needs) (c .flow-off .ensures) (λ h g s p. refl) (λ h g s q. refl)
 
 same-length-21 : tie.Need-same-length-21
 same-length-21 c = search needs
 
 returns-30 : tie.Need-returns-30
 unfolding obey
-returns-30 c = obeys-command (c .before .before .before .before .before .before .before .before .before .args .command) SetContrast _ (search needs) (c .before .before .set-contrast .ensures) (λ g h. tt) (λ g s p. refl) (λ g s q. refl)
+returns-30 c = obeys-command (c .before .before .before .before .before .before .before .before .before .args .command) SetContrast _ (search needs) (c .before .before .set-contrast .ensures) (λ h g s p. refl) (λ h g s q. refl)
 
 same-length-22 : tie.Need-same-length-22
 same-length-22 c = search needs
 
 returns-31 : tie.Need-returns-31
 unfolding obey
-returns-31 c = obeys-command (c .before .before .before .before .before .before .before .before .before .args .command) BacklightOn _ (search needs) (c .before .before .backlight-on .ensures) (λ g h. tt) (λ g s p. refl) (λ g s q. refl)
+returns-31 c = obeys-command (c .before .before .before .before .before .before .before .before .before .args .command) BacklightOn _ (search needs) (c .before .before .backlight-on .ensures) (λ h g s p. refl) (λ h g s q. refl)
 
 same-length-23 : tie.Need-same-length-23
 same-length-23 c = search needs
 
 returns-32 : tie.Need-returns-32
 unfolding obey
-returns-32 c = obeys-command (c .before .before .before .before .before .before .before .before .before .args .command) BacklightOff _ (search needs) (c .before .before .backlight-off .ensures) (λ g h. tt) (λ g s p. refl) (λ g s q. refl)
+returns-32 c = obeys-command (c .before .before .before .before .before .before .before .before .before .args .command) BacklightOff _ (search needs) (c .before .before .backlight-off .ensures) (λ h g s p. refl) (λ h g s q. refl)
 
 same-length-24 : tie.Need-same-length-24
 same-length-24 c = search needs
 
 returns-33 : tie.Need-returns-33
 unfolding obey
-returns-33 c = obeys-command (c .before .before .before .before .before .before .before .before .before .args .command) SetSerial _ (search needs) (c .before .before .set-serial .ensures) (λ g h. tt) (λ g s p. refl) (λ g s q. refl)
+returns-33 c = obeys-command (c .before .before .before .before .before .before .before .before .before .args .command) SetSerial _ (search needs) (c .before .before .set-serial .ensures) (λ h g s p. refl) (λ h g s q. refl)
 
 pub obey-spec : {M : Type 1} → statement M
 obey-spec =

@@ -12,7 +12,7 @@ done-requires : tie.Need-done-requires
 done-requires c κs = search needs
 
 returns : tie.Need-returns
-returns c = obeys-done _ (done-with (c .before .in-phase .ensures) (c .done .ensures)) (λ p. refl) (λ g s p t. alone-prefix _ _ _ _ (search needs))
+returns c = obeys-done _ (done-with (c .before .in-phase .ensures) (c .done .ensures)) (λ p. refl) (λ h g s p. alone-prefix _ _ _ _ (search needs))
 
 draw-character-requires : tie.Need-draw-character-requires
 draw-character-requires c κs = search needs
@@ -21,7 +21,7 @@ same-length : tie.Need-same-length
 same-length c = search needs
 
 returns-2 : tie.Need-returns-2
-returns-2 c = obeys-as (c .before .before .draw-character .ensures) (λ g h. h) (λ g s p. refl) (λ g s p t. alone-character _ _ (search needs))
+returns-2 c = obeys-as (c .before .before .draw-character .ensures) (λ h g s p. refl) (λ h g s p. alone-character _ _ (search needs))
 
 pub take-alone-spec : {M : Type 1} → statement M
 take-alone-spec =

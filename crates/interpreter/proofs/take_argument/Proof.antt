@@ -15,7 +15,7 @@ same-length : tie.Need-same-length
 same-length c = search needs
 
 returns : tie.Need-returns
-returns c = obeys-as (c .take-bitmap .ensures) (λ g h. tt) (λ g s p. refl) (λ g s p t. bitmap-is _ _ _ _ _ (c .before .before .before .is-bitmap-due .ensures) (search needs))
+returns c = obeys-as (c .take-bitmap .ensures) (λ h g s p. refl) (λ h g s p. bitmap-is _ _ _ _ _ (c .before .before .before .is-bitmap-due .ensures) (search needs))
 
 command-of-requires : tie.Need-command-of-requires
 command-of-requires c κs = search needs
@@ -42,7 +42,7 @@ done-requires : tie.Need-done-requires
 done-requires c κs = search needs
 
 returns-2 : tie.Need-returns-2
-returns-2 c = obeys-done _ (done-with (c .before .gathering .ensures) (c .done .ensures)) (λ p. refl) (λ g s p t. argument-kept _ _ _ _ _ _ _ _ (c .before .before .before .before .before .before .before .is-bitmap-due .ensures) (search needs) (c .before .before .before .before .before .command-of .ensures) (c .before .before .before .arguments-of .ensures) (c .before .before .before .before .gathered .ensures) _ _ _ (search needs))
+returns-2 c = obeys-done _ (done-with (c .before .gathering .ensures) (c .done .ensures)) (λ p. refl) (λ h g s p. argument-kept _ _ _ _ _ _ _ _ (c .before .before .before .before .before .before .before .is-bitmap-due .ensures) (search needs) (c .before .before .before .before .before .command-of .ensures) (c .before .before .before .arguments-of .ensures) (c .before .before .before .before .gathered .ensures) _ _ _ _ (search needs))
 
 in-phase-requires : tie.Need-in-phase-requires
 in-phase-requires c κs = search needs

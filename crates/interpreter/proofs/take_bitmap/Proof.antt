@@ -18,7 +18,7 @@ refused-requires : tie.Need-refused-requires
 refused-requires c κs = search needs
 
 returns : tie.Need-returns
-returns c = obeys-refused 22 (c .refused .ensures) (λ g s p. refl) (λ g s p t. bitmap-22 _ _ _ _ _ (c .before .before .before .find .ensures) (search needs))
+returns c = obeys-refused 22 (c .refused .ensures) (λ h g s p. refl) (λ h g s p. bitmap-22 _ _ _ _ _ (c .before .before .before .find .ensures) (search needs))
 
 gathered-requires : tie.Need-gathered-requires
 gathered-requires c κs = search needs
@@ -30,7 +30,7 @@ done-requires : tie.Need-done-requires
 done-requires c κs = search needs
 
 returns-2 : tie.Need-returns-2
-returns-2 c = obeys-done _ (done-with (c .before .gathering .ensures) (c .done .ensures)) (λ p. refl) (λ g s p t. bitmap-found _ _ _ _ _ (c .before .before .before .before .before .find .ensures) _ _ _ _ (c .before .before .before .enum-told .given .1) (c .before .before .gathered .ensures))
+returns-2 c = obeys-done _ (done-with (c .before .gathering .ensures) (c .done .ensures)) (λ p. refl) (λ h g s p. bitmap-found _ _ _ _ _ (c .before .before .before .before .before .find .ensures) _ _ _ _ (c .before .before .before .enum-told .given .1) (c .before .before .gathered .ensures))
 
 pub take-bitmap-spec : {M : Type 1} → statement M
 take-bitmap-spec =

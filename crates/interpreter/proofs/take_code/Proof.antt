@@ -36,7 +36,7 @@ done-requires : tie.Need-done-requires
 done-requires c κs = search needs
 
 returns-2 : tie.Need-returns-2
-returns-2 c = obeys-done _ (done-with (c .before .in-phase2 .ensures) (c .done .ensures)) (λ p. refl) (λ g s p t. code-gathers _ _ _ (c .before .before .before .before .command-of .ensures) (c .before .before .before .arguments-of .ensures) _ (search needs))
+returns-2 c = obeys-done _ (done-with (c .before .in-phase2 .ensures) (c .done .ensures)) (λ p. refl) (λ h g s p. code-gathers _ _ _ (c .before .before .before .before .command-of .ensures) (c .before .before .before .arguments-of .ensures) _ (search needs))
 
 pub take-code-spec : {M : Type 1} → statement M
 take-code-spec =

@@ -4,16 +4,28 @@ use Rattle.listing.proofs.show_framebuffer.Statement.{statement}
 use Rattle.listing.proofs.show_framebuffer.Tie as tie
 
 abbrev Inv-loop : tie.InvT-loop
-Inv-loop framebuffer y₀ y = Unit {0}
+Inv-loop framebuffer height end y₀ y = Unit {0}
 
 abbrev μ-loop : tie.MeasureT-loop
-μ-loop framebuffer y₀ y = 64 - y
+μ-loop framebuffer height end y₀ y = end - y
 
 slice-aggregate-write-all : tie.Need-slice-aggregate-write-all Inv-loop μ-loop
 slice-aggregate-write-all c = search needs
 
 write-all-requires : tie.Need-write-all-requires Inv-loop μ-loop
 write-all-requires c κs = search needs
+
+cast-print-decimal : tie.Need-cast-print-decimal Inv-loop μ-loop
+cast-print-decimal c = search needs
+
+print-decimal-requires : tie.Need-print-decimal-requires Inv-loop μ-loop
+print-decimal-requires c κs = search needs
+
+slice-aggregate-write-all-2 : tie.Need-slice-aggregate-write-all-2 Inv-loop μ-loop
+slice-aggregate-write-all-2 c = search needs
+
+write-all-requires-2 : tie.Need-write-all-requires-2 Inv-loop μ-loop
+write-all-requires-2 c κs = search needs
 
 loop-holds : tie.Need-loop-holds Inv-loop μ-loop
 loop-holds c = search needs
@@ -41,6 +53,10 @@ show-framebuffer-spec =
     μ-loop
     slice-aggregate-write-all
     write-all-requires
+    cast-print-decimal
+    print-decimal-requires
+    slice-aggregate-write-all-2
+    write-all-requires-2
     loop-holds
     show-row-requires
     add-y

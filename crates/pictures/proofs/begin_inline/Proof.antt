@@ -12,7 +12,7 @@ refused-requires : tie.Need-refused-requires
 refused-requires c κs = search needs
 
 returns : tie.Need-returns
-returns c = obeys-refused 18 (c .refused .ensures) (λ g s p. refl) (λ g s p t. inline-18 _ _ _ _ _ _ (c .before .before .is-ordered .ensures) (search needs))
+returns c = obeys-refused 18 (c .refused .ensures) (λ h g s p. refl) (λ h g s p. inline-18 _ _ _ _ _ _ (c .before .before .is-ordered .ensures) (search needs))
 
 in-phase-requires : tie.Need-in-phase-requires
 in-phase-requires c κs = search needs
@@ -21,7 +21,7 @@ done-requires : tie.Need-done-requires
 done-requires c κs = search needs
 
 returns-2 : tie.Need-returns-2
-returns-2 c = obeys-done _ (done-with (c .before .in-phase .ensures) (c .done .ensures)) (λ p. refl) (λ g s p t. inline-done _ _ _ _ _ _ _ _ (c .before .before .before .is-ordered .ensures) (search needs))
+returns-2 c = obeys-done _ (done-with (c .before .in-phase .ensures) (c .done .ensures)) (λ p. refl) (λ h g s p. inline-done _ _ _ _ _ _ _ _ (c .before .before .before .is-ordered .ensures) (search needs))
 
 pub begin-inline-spec : {M : Type 1} → statement M
 begin-inline-spec =

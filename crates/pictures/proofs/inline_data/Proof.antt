@@ -30,7 +30,7 @@ same-length : tie.Need-same-length
 same-length c = search needs
 
 returns : tie.Need-returns
-returns c = obeys-done _ (done-with (c .before .in-phase .ensures) (c .done .ensures)) (λ p. refl) (λ g s p t. data-more _ _ _ _ _ _ _ _ _ _ _ (c .before .before .before .before .before .before .paint-inline .ensures) (c .before .before .before .inline-bytes .ensures) (search needs))
+returns c = obeys-done _ (done-with (c .before .in-phase .ensures) (c .done .ensures)) (λ p. refl) (λ h g s p. data-more _ _ _ _ _ _ _ _ _ _ _ (c .before .before .before .before .before .before .paint-inline .ensures) (c .before .before .before .inline-bytes .ensures) (search needs))
 
 in-phase-requires-2 : tie.Need-in-phase-requires-2
 in-phase-requires-2 c κs = search needs
@@ -42,7 +42,7 @@ same-length-2 : tie.Need-same-length-2
 same-length-2 c = search needs
 
 returns-2 : tie.Need-returns-2
-returns-2 c = obeys-done _ (done-with (c .before .in-phase2 .ensures) (c .done2 .ensures)) (λ p. refl) (λ g s p t. data-last _ _ _ _ _ _ _ _ _ _ _ (c .before .before .before .before .before .before .paint-inline .ensures) (c .before .before .before .inline-bytes .ensures) (search needs))
+returns-2 c = obeys-done _ (done-with (c .before .in-phase2 .ensures) (c .done2 .ensures)) (λ p. refl) (λ h g s p. data-last _ _ _ _ _ _ _ _ _ _ _ (c .before .before .before .before .before .before .paint-inline .ensures) (c .before .before .before .inline-bytes .ensures) (search needs))
 
 pub inline-data-spec : {M : Type 1} → statement M
 inline-data-spec =

@@ -18,7 +18,7 @@ refused-requires : tie.Need-refused-requires
 refused-requires c κs = search needs
 
 returns : tie.Need-returns
-returns c = obeys-refused 22 (c .refused .ensures) (λ g s p. refl) (λ g s p t. show-22 _ _ _ _ _ (c .before .before .before .find .ensures) (search needs))
+returns c = obeys-refused 22 (c .refused .ensures) (λ h g s p. refl) (λ h g s p. show-22 _ _ _ _ _ (c .before .before .before .find .ensures) (search needs))
 
 part-requires : tie.Need-part-requires
 part-requires c κs = search needs
@@ -30,7 +30,7 @@ same-length : tie.Need-same-length
 same-length c = search needs
 
 returns-2 : tie.Need-returns-2
-returns-2 c = obeys-as (c .before .before .show-file .ensures) (λ g h. h) (λ g s p. refl) (λ g s p t. show-found _ _ _ _ _ _ _ _ _ (c .before .before .before .before .before .before .before .before .find .ensures) (c .before .before .before .before .before .before .found .given .1) (c .before .before .before .before .part .ensures))
+returns-2 c = obeys-as (c .before .before .show-file .ensures) (λ h g s p. refl) (λ h g s p. show-found _ _ _ _ _ _ _ _ _ (c .before .before .before .before .before .before .before .before .find .ensures) (c .before .before .before .before .before .before .found .given .1) (c .before .before .before .before .part .ensures))
 
 pub show-bitmap-spec : {M : Type 1} → statement M
 show-bitmap-spec =

@@ -18,7 +18,7 @@ refused-requires : tie.Need-refused-requires
 refused-requires c κs = search needs
 
 returns : tie.Need-returns
-returns c = obeys-refused 23 (c .refused .ensures) (λ g s p. refl) (λ g s p t. bitmap-23 _ _ _ _ _ _ _ (c .before .before .before .check-bitmap .ensures) (search needs))
+returns c = obeys-refused 23 (c .refused .ensures) (λ h g s p. refl) (λ h g s p. bitmap-23 _ _ _ _ _ _ _ (c .before .before .before .check-bitmap .ensures) (search needs))
 
 rest-requires : tie.Need-rest-requires
 rest-requires c κs = search needs
@@ -39,7 +39,7 @@ same-length : tie.Need-same-length
 same-length c = search needs
 
 returns-2 : tie.Need-returns-2
-returns-2 c = obeys-done _ (c .done .ensures) (λ p. refl) (λ g s p t. bitmap-done _ _ _ _ _ _ _ (c .before .before .before .before .before .before .before .before .before .before .check-bitmap .ensures) _ _ _ _ (search needs) (c .before .before .before .before .before .before .before .rest .ensures) (c .before .before .before .before .before .bitmap-width .ensures) (c .before .before .before .before .bitmap-height .ensures) (c .before .before .before .paint-packed .ensures))
+returns-2 c = obeys-done _ (c .done .ensures) (λ p. refl) (λ h g s p. bitmap-done _ _ _ _ _ _ _ (c .before .before .before .before .before .before .before .before .before .before .check-bitmap .ensures) _ _ _ _ (search needs) (c .before .before .before .before .before .before .before .rest .ensures) (c .before .before .before .before .before .bitmap-width .ensures) (c .before .before .before .before .bitmap-height .ensures) (c .before .before .before .paint-packed .ensures))
 
 pub show-file-spec : {M : Type 1} → statement M
 show-file-spec =

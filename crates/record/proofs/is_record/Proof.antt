@@ -1,25 +1,39 @@
 -- `is_record` meets its contract.
 -- Assumes nothing.
+use Rattle.record.proofs.Deciding.{recognised-long, not-recognised, record-is}
 use borrow.Author.Needs.{needs}
-use Rattle.record.proofs.Deciding.{record-size, record-is}
 use Rattle.record.proofs.is_record.Statement.{statement}
 use Rattle.record.proofs.is_record.Tie as tie
 
+is-recognised-requires : tie.Need-is-recognised-requires
+is-recognised-requires c κs = search needs
+
 returns : tie.Need-returns
-returns c = record-size _ _ (search needs)
+returns c = not-recognised _ _ (c .before .is-recognised .ensures) (search needs)
 
 is-port-requires : tie.Need-is-port-requires
-is-port-requires c κs = search needs
+is-port-requires c κs = recognised-long _ _ (c .before .is-recognised .ensures) (search needs)
+
+height-in-requires : tie.Need-height-in-requires
+height-in-requires c κs = search needs
 
 is-panel-requires : tie.Need-is-panel-requires
-is-panel-requires c κs = search needs
+is-panel-requires c κs = recognised-long _ _ (c .before .before .before .is-recognised .ensures) (search needs)
 
 both-requires : tie.Need-both-requires
 both-requires c κs = search needs
 
 returns-2 : tie.Need-returns-2
-returns-2 c = record-is _ _ _ _ _ (search needs) (c .before .before .is-port .ensures) (c .before .is-panel .ensures) (c .both .ensures)
+returns-2 c = record-is _ _ _ _ _ _ (c .before .before .before .before .before .is-recognised .ensures) (search needs) (c .before .before .before .is-port .ensures) (c .before .before .height-in .ensures) (c .before .is-panel .ensures) (c .both .ensures)
 
 pub is-record-spec : {M : Type 1} → statement M
 is-record-spec =
-    tie.close (tie.spec returns is-port-requires is-panel-requires both-requires returns-2)
+    tie.close
+    (tie.spec
+    is-recognised-requires
+    returns
+    is-port-requires
+    height-in-requires
+    is-panel-requires
+    both-requires
+    returns-2)

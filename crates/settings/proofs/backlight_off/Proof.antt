@@ -14,7 +14,7 @@ same-length : tie.Need-same-length
 same-length c = search needs
 
 returns : tie.Need-returns
-returns c = obeys-set _ _ (c .done .ensures) (λ p. c .before .before .before .clear-backlight .ensures) (λ g s p t. off-is _)
+returns c = obeys-set _ _ (c .done .ensures) (λ p. c .before .before .before .clear-backlight .ensures) (λ h g s p. off-is _)
 
 pub backlight-off-spec : {M : Type 1} → statement M
 backlight-off-spec =

@@ -14,7 +14,7 @@ same-length : tie.Need-same-length
 same-length c = search needs
 
 returns : tie.Need-returns
-returns c = obeys-set _ _ (c .done .ensures) (λ p. c .before .before .before .set-backlight .ensures) (λ g s p t. on-is _ _)
+returns c = obeys-set _ _ (c .done .ensures) (λ p. c .before .before .before .set-backlight .ensures) (λ h g s p. on-is _ _)
 
 pub backlight-on-spec : {M : Type 1} → statement M
 backlight-on-spec = tie.close (tie.spec set-backlight-requires done-requires same-length returns)

@@ -12,7 +12,7 @@ done-requires : tie.Need-done-requires
 done-requires c κs = search needs
 
 returns : tie.Need-returns
-returns c = obeys-done _ (done-with (c .before .with-flow .ensures) (c .done .ensures)) (λ p. refl) (λ g s p t. flow-off-is _)
+returns c = obeys-done _ (done-with (c .before .with-flow .ensures) (c .done .ensures)) (λ p. refl) (λ h g s p. flow-off-is _)
 
 pub flow-off-spec : {M : Type 1} → statement M
 flow-off-spec = tie.close (tie.spec with-flow-requires done-requires returns)

@@ -18,7 +18,7 @@ refused-requires : tie.Need-refused-requires
 refused-requires c κs = search needs
 
 returns : tie.Need-returns
-returns c = obeys-refused 27 (c .refused .ensures) (λ g s p. refl) (λ g s p t. flow-refused _ _ _ _ _ (c .before .before .before .wide .ensures .0) (c .before .before .wide2 .ensures .0) (search needs))
+returns c = obeys-refused 27 (c .refused .ensures) (λ h g s p. refl) (λ h g s p. flow-refused _ _ _ _ _ (c .before .before .before .wide .ensures .0) (c .before .before .wide2 .ensures .0) (search needs))
 
 with-flow-requires : tie.Need-with-flow-requires
 with-flow-requires c κs = search needs
@@ -27,7 +27,7 @@ done-requires : tie.Need-done-requires
 done-requires c κs = search needs
 
 returns-2 : tie.Need-returns-2
-returns-2 c = obeys-done _ (done-with (c .before .with-flow .ensures) (c .done .ensures)) (λ p. refl) (λ g s p t. flow-on-is _ _ _ _ _ (c .before .before .before .before .wide .ensures .0) (c .before .before .before .wide2 .ensures .0) (search needs))
+returns-2 c = obeys-done _ (done-with (c .before .with-flow .ensures) (c .done .ensures)) (λ p. refl) (λ h g s p. flow-on-is _ _ _ _ _ (c .before .before .before .before .wide .ensures .0) (c .before .before .before .wide2 .ensures .0) (search needs))
 
 pub flow-on-spec : {M : Type 1} → statement M
 flow-on-spec =

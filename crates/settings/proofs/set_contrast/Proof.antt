@@ -14,7 +14,7 @@ same-length : tie.Need-same-length
 same-length c = search needs
 
 returns : tie.Need-returns
-returns c = obeys-set _ _ (c .done .ensures) (λ p. c .before .before .before .set-contrast .ensures) (λ g s p t. contrast-is _ _)
+returns c = obeys-set _ _ (c .done .ensures) (λ p. c .before .before .before .set-contrast .ensures) (λ h g s p. contrast-is _ _)
 
 pub set-contrast-spec : {M : Type 1} → statement M
 set-contrast-spec = tie.close (tie.spec set-contrast-requires done-requires same-length returns)

@@ -18,7 +18,7 @@ same-length : tie.Need-same-length
 same-length c = search needs
 
 returns : tie.Need-returns
-returns c = obeys-two _ _ _ (sending-with refl (c .before .two-bytes .ensures) (c .sending .ensures)) (λ p. refl) (λ g s p t. serial-kept _ _ _ _ (c .before .before .before .serial-in .ensures) (search needs))
+returns c = obeys-two _ _ _ (sending-with refl (c .before .two-bytes .ensures) (c .sending .ensures)) (λ p. refl) (λ h g s p. serial-kept _ _ _ _ (c .before .before .before .serial-in .ensures) (search needs))
 
 set-serial-requires : tie.Need-set-serial-requires
 set-serial-requires c κs = search needs
@@ -33,7 +33,7 @@ same-length-2 : tie.Need-same-length-2
 same-length-2 c = search needs
 
 returns-2 : tie.Need-returns-2
-returns-2 c = obeys-set-two _ _ _ _ (sending-with refl (c .before .two-bytes2 .ensures) (c .sending2 .ensures)) (λ p. c .before .before .before .before .set-serial .ensures) (λ g s p t. serial-stored _ _ _ _ (c .before .before .before .before .before .before .before .serial-in .ensures) (search needs))
+returns-2 c = obeys-set-two _ _ _ _ (sending-with refl (c .before .two-bytes2 .ensures) (c .sending2 .ensures)) (λ p. c .before .before .before .before .set-serial .ensures) (λ h g s p. serial-stored _ _ _ _ (c .before .before .before .before .before .before .before .serial-in .ensures) (search needs))
 
 pub set-serial-spec : {M : Type 1} → statement M
 set-serial-spec =

@@ -12,7 +12,7 @@ telling-requires : tie.Need-telling-requires
 telling-requires c κs = search needs
 
 returns : tie.Need-returns
-returns c = obeys-telling 25 8 (c .telling .ensures) (λ g s p. refl) (λ g s p t. upload-25 _ _ _ _ _ _ _ (c .before .before .is-in-use .ensures) (search needs))
+returns c = obeys-telling 25 8 (c .telling .ensures) (λ h g s p. refl) (λ h g s p. upload-25 _ _ _ _ _ _ _ (c .before .before .is-in-use .ensures) (search needs))
 
 lacks-space-requires : tie.Need-lacks-space-requires
 lacks-space-requires c κs = search needs
@@ -21,7 +21,7 @@ telling-requires-2 : tie.Need-telling-requires-2
 telling-requires-2 c κs = search needs
 
 returns-2 : tie.Need-returns-2
-returns-2 c = obeys-telling 24 8 (c .telling2 .ensures) (λ g s p. refl) (λ g s p t. upload-24 _ _ _ _ _ _ _ _ (c .before .before .before .before .is-in-use .ensures) (search needs) (c .before .before .lacks-space .ensures) (search needs))
+returns-2 c = obeys-telling 24 8 (c .telling2 .ensures) (λ h g s p. refl) (λ h g s p. upload-24 _ _ _ _ _ _ _ _ (c .before .before .before .before .is-in-use .ensures) (search needs) (c .before .before .lacks-space .ensures) (search needs))
 
 in-phase-requires : tie.Need-in-phase-requires
 in-phase-requires c κs = search needs
@@ -33,7 +33,7 @@ sending-requires : tie.Need-sending-requires
 sending-requires c κs = search needs
 
 returns-3 : tie.Need-returns-3
-returns-3 c = obeys-one _ _ (sending-with (c .before .before .in-phase .ensures) (c .before .one-byte .ensures) (c .sending .ensures)) (λ p. refl) (λ g s p t. upload-done _ _ _ _ _ _ _ _ (c .before .before .before .before .before .before .is-in-use .ensures) (search needs) (c .before .before .before .before .lacks-space .ensures) (search needs))
+returns-3 c = obeys-one _ _ (sending-with (c .before .before .in-phase .ensures) (c .before .one-byte .ensures) (c .sending .ensures)) (λ p. refl) (λ h g s p. upload-done _ _ _ _ _ _ _ _ (c .before .before .before .before .before .before .is-in-use .ensures) (search needs) (c .before .before .before .before .lacks-space .ensures) (search needs))
 
 pub begin-upload-spec : {M : Type 1} → statement M
 begin-upload-spec =

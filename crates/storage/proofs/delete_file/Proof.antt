@@ -9,7 +9,7 @@ refused-requires : tie.Need-refused-requires
 refused-requires c κs = search needs
 
 returns : tie.Need-returns
-returns c = obeys-refused 20 (c .refused .ensures) (λ g s p. refl) (λ g s p t. delete-20 _ _ _ _ _ (search needs))
+returns c = obeys-refused 20 (c .refused .ensures) (λ h g s p. refl) (λ h g s p. delete-20 _ _ _ _ _ (search needs))
 
 add-kind : tie.Need-add-kind
 add-kind c = search needs
@@ -24,7 +24,7 @@ same-length : tie.Need-same-length
 same-length c = search needs
 
 returns-2 : tie.Need-returns-2
-returns-2 c = obeys-refused 22 (c .refused2 .ensures) (λ g s p. refl) (λ g s p t. delete-22 _ _ _ _ _ _ (search needs) (c .before .before .is-stored .ensures) (search needs))
+returns-2 c = obeys-refused 22 (c .refused2 .ensures) (λ h g s p. refl) (λ h g s p. delete-22 _ _ _ _ _ _ (search needs) (c .before .before .is-stored .ensures) (search needs))
 
 delete-requires : tie.Need-delete-requires
 delete-requires c κs = search needs
@@ -36,7 +36,7 @@ same-length-2 : tie.Need-same-length-2
 same-length-2 c = search needs
 
 returns-3 : tie.Need-returns-3
-returns-3 c = obeys-done _ (c .done .ensures) (λ p. refl) (λ g s p t. delete-bitmap _ _ _ _ _ _ _ (search needs) (c .before .before .before .before .before .before .before .is-stored .ensures) (search needs) (c .before .before .before .before .delete .ensures .1) (search needs))
+returns-3 c = obeys-done _ (c .done .ensures) (λ p. refl) (λ h g s p. delete-bitmap _ _ _ _ _ _ _ (search needs) (c .before .before .before .before .before .before .before .is-stored .ensures) (search needs) (c .before .before .before .before .delete .ensures .1) (search needs))
 
 done-requires-2 : tie.Need-done-requires-2
 done-requires-2 c κs = search needs
@@ -45,7 +45,7 @@ same-length-3 : tie.Need-same-length-3
 same-length-3 c = search needs
 
 returns-4 : tie.Need-returns-4
-returns-4 c = obeys-done _ (c .done2 .ensures) (λ p. refl) (λ g s p t. delete-other _ _ _ _ _ _ _ (search needs) (c .before .before .before .before .before .before .before .before .before .before .is-stored .ensures) (search needs) (c .before .before .before .before .before .before .before .delete .ensures .1) (search needs) (search needs))
+returns-4 c = obeys-done _ (c .done2 .ensures) (λ p. refl) (λ h g s p. delete-other _ _ _ _ _ _ _ (search needs) (c .before .before .before .before .before .before .before .before .before .before .is-stored .ensures) (search needs) (c .before .before .before .before .before .before .before .delete .ensures .1) (search needs) (search needs))
 
 put-text-requires : tie.Need-put-text-requires
 put-text-requires c κs = search needs
@@ -57,7 +57,7 @@ same-length-4 : tie.Need-same-length-4
 same-length-4 c = search needs
 
 returns-5 : tie.Need-returns-5
-returns-5 c = obeys-done _ (done-with (c .before .put-text .ensures) (c .done3 .ensures)) (λ p. refl) (λ g s p t. delete-chosen _ _ _ _ _ _ _ (search needs) (c .before .before .before .before .before .before .before .before .before .before .before .is-stored .ensures) (c .before .before .before .before .before .before .before .before .before .before .if2 .left) (c .before .before .before .before .before .before .before .before .delete .ensures .1) (search needs) (search needs))
+returns-5 c = obeys-done _ (done-with (c .before .put-text .ensures) (c .done3 .ensures)) (λ p. refl) (λ h g s p. delete-chosen _ _ _ _ _ _ _ (search needs) (c .before .before .before .before .before .before .before .before .before .before .before .is-stored .ensures) (c .before .before .before .before .before .before .before .before .before .before .if2 .left) (c .before .before .before .before .before .before .before .before .delete .ensures .1) (search needs) (search needs))
 
 pub delete-file-spec : {M : Type 1} → statement M
 delete-file-spec =

@@ -9,13 +9,13 @@ refused-requires : tie.Need-refused-requires
 refused-requires c κs = search needs
 
 returns : tie.Need-returns
-returns c = obeys-refused 20 (c .refused .ensures) (λ g s p. refl) (λ g s p t. purge-first _ _ _ _ _ (search needs))
+returns c = obeys-refused 20 (c .refused .ensures) (λ h g s p. refl) (λ h g s p. purge-first _ _ _ _ _ (search needs))
 
 refused-requires-2 : tie.Need-refused-requires-2
 refused-requires-2 c κs = search needs
 
 returns-2 : tie.Need-returns-2
-returns-2 c = obeys-refused 20 (c .refused2 .ensures) (λ g s p. refl) (λ g s p t. purge-second _ _ _ _ _ (search needs) (search needs))
+returns-2 c = obeys-refused 20 (c .refused2 .ensures) (λ h g s p. refl) (λ h g s p. purge-second _ _ _ _ _ (search needs) (search needs))
 
 purge-requires : tie.Need-purge-requires
 purge-requires c κs = search needs
@@ -33,7 +33,7 @@ same-length : tie.Need-same-length
 same-length c = search needs
 
 returns-3 : tie.Need-returns-3
-returns-3 c = obeys-done _ (done-with (put-with (c .before .before .before .before .before .before .before .before .before .before .args .port) (c .before .before .start-text .ensures) (c .before .put-text .ensures)) (c .done .ensures)) (λ p. refl) (λ g s p t. purge-done _ _ _ _ _ _ _ t (search needs) (search needs) (c .before .before .before .before .before .purge .ensures))
+returns-3 c = obeys-done _ (done-with (put-with (c .before .before .before .before .before .before .before .before .before .before .args .port) (c .before .before .start-text .ensures) (c .before .put-text .ensures)) (c .done .ensures)) (λ p. refl) (λ h g s p. purge-done _ _ _ _ _ _ (search needs) (search needs) (c .before .before .before .before .before .purge .ensures))
 
 pub purge-spec : {M : Type 1} → statement M
 purge-spec =

@@ -15,13 +15,13 @@ sending-requires : tie.Need-sending-requires
 sending-requires c κs = search needs
 
 returns : tie.Need-returns
-returns c = obeys-one _ _ (sending-with (c .before .before .in-phase .ensures) (c .before .one-byte .ensures) (c .sending .ensures)) (λ p. refl) (λ g s p t. data-echoed _ _ _ _ _ _ _ _ _ _ (search needs))
+returns c = obeys-one _ _ (sending-with (c .before .before .in-phase .ensures) (c .before .one-byte .ensures) (c .sending .ensures)) (λ p. refl) (λ h g s p. data-echoed _ _ _ _ _ _ _ _ _ _ (search needs))
 
 refused-requires : tie.Need-refused-requires
 refused-requires c κs = search needs
 
 returns-2 : tie.Need-returns-2
-returns-2 c = obeys-refused 26 (c .refused .ensures) (λ g s p. refl) (λ g s p t. data-26 _ _ _ _ _ _ _ _ _ _ (search needs) (search needs))
+returns-2 c = obeys-refused 26 (c .refused .ensures) (λ h g s p. refl) (λ h g s p. data-26 _ _ _ _ _ _ _ _ _ _ (search needs) (search needs))
 
 store-byte-requires : tie.Need-store-byte-requires
 store-byte-requires c κs = search needs
@@ -42,7 +42,7 @@ same-length : tie.Need-same-length
 same-length c = search needs
 
 returns-3 : tie.Need-returns-3
-returns-3 c = obeys-done _ (done-with (c .before .in-phase2 .ensures) (c .done .ensures)) (λ p. refl) (λ g s p t. data-more _ _ _ _ _ _ _ _ _ _ _ (search needs) (search needs) (search needs) (c .before .before .before .before .before .store-byte .ensures))
+returns-3 c = obeys-done _ (done-with (c .before .in-phase2 .ensures) (c .done .ensures)) (λ p. refl) (λ h g s p. data-more _ _ _ _ _ _ _ _ _ _ _ (search needs) (search needs) (search needs) (c .before .before .before .before .before .store-byte .ensures))
 
 append-requires : tie.Need-append-requires
 append-requires c κs = search needs
@@ -57,7 +57,7 @@ same-length-2 : tie.Need-same-length-2
 same-length-2 c = search needs
 
 returns-4 : tie.Need-returns-4
-returns-4 c = obeys-done _ (done-with (c .before .in-phase3 .ensures) (c .done2 .ensures)) (λ p. refl) (λ g s p t. data-last _ _ _ _ _ _ _ _ _ _ _ _ (c .before .before .before .before .before .before .before .before .before .before .before .before .if1 .left) (c .before .before .before .before .before .before .before .before .before .before .before .if2 .left) (search needs) (c .before .before .before .before .before .before .before .before .before .store-byte .ensures) (c .before .before .before .before .append .ensures))
+returns-4 c = obeys-done _ (done-with (c .before .in-phase3 .ensures) (c .done2 .ensures)) (λ p. refl) (λ h g s p. data-last _ _ _ _ _ _ _ _ _ _ _ _ (c .before .before .before .before .before .before .before .before .before .before .before .before .if1 .left) (c .before .before .before .before .before .before .before .before .before .before .before .if2 .left) (search needs) (c .before .before .before .before .before .before .before .before .before .store-byte .ensures) (c .before .before .before .before .append .ensures))
 
 pub upload-data-spec : {M : Type 1} → statement M
 upload-data-spec =

@@ -33,13 +33,13 @@ refused-requires : tie.Need-refused-requires
 refused-requires c κs = search needs
 
 returns : tie.Need-returns
-returns c = obeys-done _ (done-with (c .before .put-text .ensures) (c .done .ensures)) (λ p. refl) (λ g s p t. choose-opened _ _ _ _ _ t _ (from-built-in _ _ _ _ (c .before .before .before .before .find-font .ensures) _ (search needs) refl))
+returns c = obeys-done _ (done-with (c .before .put-text .ensures) (c .done .ensures)) (λ p. refl) (λ h g s p. choose-opened _ _ _ _ _ (from-built-in _ _ _ _ (c .before .before .before .before .find-font .ensures) _ (search needs) refl))
 
 returns-2 : tie.Need-returns-2
-returns-2 c = obeys-done _ (done-with (c .before .put-text2 .ensures) (c .done2 .ensures)) (λ p. refl) (λ g s p t. choose-opened _ _ _ _ _ t _ (from-stored _ _ _ _ (c .before .before .before .before .find-font .ensures) _ _ _ (c .before .before .enum-told2 .given .1) refl))
+returns-2 c = obeys-done _ (done-with (c .before .put-text2 .ensures) (c .done2 .ensures)) (λ p. refl) (λ h g s p. choose-opened _ _ _ _ _ (from-stored _ _ _ _ (c .before .before .before .before .find-font .ensures) _ _ _ (c .before .before .enum-told2 .given .1) refl))
 
 returns-3 : tie.Need-returns-3
-returns-3 c = obeys-refused _ (c .refused .ensures) (λ g s p. refl) (λ g s p t. choose-shut _ _ _ _ _ t _ (from-refused _ _ _ _ (c .before .before .before .before .find-font .ensures) _ (c .before .before .source .given .1)))
+returns-3 c = obeys-refused _ (c .refused .ensures) (λ h g s p. refl) (λ h g s p. choose-shut _ _ _ _ _ (from-refused _ _ _ _ (c .before .before .before .before .find-font .ensures) _ (c .before .before .source .given .1)))
 
 pub choose-font-spec : {M : Type 1} → statement M
 choose-font-spec =

@@ -9,13 +9,13 @@ refused-requires : tie.Need-refused-requires
 refused-requires c κs = search needs
 
 returns : tie.Need-returns
-returns c = obeys-refused 28 (c .refused .ensures) (λ g s p. refl) (λ g s p t. built-in-before _ _ (search needs))
+returns c = obeys-refused 28 (c .refused .ensures) (λ h g s p. refl) (λ h g s p. built-in-before _ _ (search needs))
 
 refused-requires-2 : tie.Need-refused-requires-2
 refused-requires-2 c κs = search needs
 
 returns-2 : tie.Need-returns-2
-returns-2 c = obeys-refused 28 (c .refused2 .ensures) (λ g s p. refl) (λ g s p t. built-in-behind _ _ (search needs))
+returns-2 c = obeys-refused 28 (c .refused2 .ensures) (λ h g s p. refl) (λ h g s p. built-in-behind _ _ (search needs))
 
 rows-requires : tie.Need-rows-requires
 rows-requires c κs = search needs
@@ -30,7 +30,7 @@ same-length : tie.Need-same-length
 same-length c = search needs
 
 returns-3 : tie.Need-returns-3
-returns-3 c = obeys-as (c .before .before .draw-glyph .ensures) (λ g h. h) (λ g s p. refl) (λ g s p t. built-in-there _ _ _ (search needs) (search needs) (c .before .before .before .before .before .rows .ensures))
+returns-3 c = obeys-as (c .before .before .draw-glyph .ensures) (λ h g s p. refl) (λ h g s p. built-in-there _ _ _ (search needs) (search needs) (c .before .before .before .before .before .rows .ensures))
 
 pub draw-built-in-spec : {M : Type 1} → statement M
 draw-built-in-spec =

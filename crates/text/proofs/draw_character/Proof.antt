@@ -33,16 +33,16 @@ same-length : tie.Need-same-length
 same-length c = search needs
 
 returns : tie.Need-returns
-returns c = obeys-as (c .before .before .draw-built-in .ensures) (λ g h. h) (λ g s p. refl) (λ g s p t. character-opened _ _ _ _ _ t _ (from-built-in _ _ _ _ (c .before .before .before .before .before .before .find-font .ensures) _ (search needs) refl))
+returns c = obeys-as (c .before .before .draw-built-in .ensures) (λ h g s p. refl) (λ h g s p. character-opened _ _ _ _ _ (from-built-in _ _ _ _ (c .before .before .before .before .before .before .find-font .ensures) _ (search needs) refl))
 
 same-length-2 : tie.Need-same-length-2
 same-length-2 c = search needs
 
 returns-2 : tie.Need-returns-2
-returns-2 c = obeys-as (c .before .before .draw-in .ensures) (λ g h. h) (λ g s p. refl) (λ g s p t. character-opened _ _ _ _ _ t _ (from-stored _ _ _ _ (c .before .before .before .before .before .before .before .before .find-font .ensures) _ _ _ (c .before .before .before .before .before .before .source .given .1) (c .before .before .before .part .ensures)))
+returns-2 c = obeys-as (c .before .before .draw-in .ensures) (λ h g s p. refl) (λ h g s p. character-opened _ _ _ _ _ (from-stored _ _ _ _ (c .before .before .before .before .before .before .before .before .find-font .ensures) _ _ _ (c .before .before .before .before .before .before .source .given .1) (c .before .before .before .part .ensures)))
 
 returns-3 : tie.Need-returns-3
-returns-3 c = obeys-refused _ (c .refused .ensures) (λ g s p. refl) (λ g s p t. character-shut _ _ _ _ _ t _ (from-refused _ _ _ _ (c .before .before .before .before .find-font .ensures) _ (c .before .before .source2 .given .1)))
+returns-3 c = obeys-refused _ (c .refused .ensures) (λ h g s p. refl) (λ h g s p. character-shut _ _ _ _ _ (from-refused _ _ _ _ (c .before .before .before .before .find-font .ensures) _ (c .before .before .source2 .given .1)))
 
 pub draw-character-spec : {M : Type 1} → statement M
 draw-character-spec =

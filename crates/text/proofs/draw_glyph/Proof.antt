@@ -19,7 +19,7 @@ refused-requires : tie.Need-refused-requires
 refused-requires c κs = search needs
 
 returns : tie.Need-returns
-returns c = obeys-refused 29 (c .refused .ensures) (λ g s p. refl) (λ g s p t. glyph-29 _ _ _ _ _ _ _ _ t (c .before .before .before .place-for .ensures) (search needs))
+returns c = obeys-refused 29 (c .refused .ensures) (λ h g s p. refl) (λ h g s p. glyph-29 _ _ _ _ _ _ _ (c .before .before .before .place-for .ensures) (search needs))
 
 move-up-requires : tie.Need-move-up-requires
 move-up-requires c κs = search needs
@@ -55,7 +55,7 @@ same-length : tie.Need-same-length
 same-length c = search needs
 
 returns-2 : tie.Need-returns-2
-returns-2 c = obeys-done _ (done-with (c .before .put-text .ensures) (c .done .ensures)) (λ p. refl) (λ g s p t. glyph-done _ _ _ _ _ _ _ _ t (c .before .before .before .before .before .before .before .before .before .before .before .before .before .before .before .place-for .ensures) _ _ _ _ _ _ _ (c .before .before .before .word .ensures .0) (c .before .before .word2 .ensures .0) (c .before .before .before .before .before .before .before .before .before .before .before .before .before .place .given .1) (c .before .before .before .before .before .before .before .before .before .before .move-up .ensures) (c .before .before .before .before .before .before .paint-packed .ensures))
+returns-2 c = obeys-done _ (done-with (c .before .put-text .ensures) (c .done .ensures)) (λ p. refl) (λ h g s p. glyph-done _ _ _ _ _ _ _ (c .before .before .before .before .before .before .before .before .before .before .before .before .before .before .before .place-for .ensures) _ _ _ _ _ _ _ (c .before .before .before .word .ensures .0) (c .before .before .word2 .ensures .0) (c .before .before .before .before .before .before .before .before .before .before .before .before .before .place .given .1) (c .before .before .before .before .before .before .before .before .before .before .move-up .ensures) (c .before .before .before .before .before .before .paint-packed .ensures))
 
 pub draw-glyph-spec : {M : Type 1} → statement M
 draw-glyph-spec =

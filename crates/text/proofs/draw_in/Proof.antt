@@ -18,7 +18,7 @@ refused-requires : tie.Need-refused-requires
 refused-requires c κs = search needs
 
 returns : tie.Need-returns
-returns c = obeys-refused 28 (c .refused .ensures) (λ g s p. refl) (λ g s p t. draw-28 _ _ _ _ (c .before .before .before .glyph-of .ensures) (search needs))
+returns c = obeys-refused 28 (c .refused .ensures) (λ h g s p. refl) (λ h g s p. draw-28 _ _ _ _ (c .before .before .before .glyph-of .ensures) (search needs))
 
 rest-requires : tie.Need-rest-requires
 rest-requires c κs = search needs
@@ -30,7 +30,7 @@ same-length : tie.Need-same-length
 same-length c = search needs
 
 returns-2 : tie.Need-returns-2
-returns-2 c = obeys-as (c .before .before .draw-glyph .ensures) (λ g h. h) (λ g s p. refl) (λ g s p t. draw-there _ _ _ _ (c .before .before .before .before .before .before .before .before .glyph-of .ensures) _ _ _ _ (c .before .before .before .before .before .before .glyph .given .1) (c .before .before .before .rest .ensures))
+returns-2 c = obeys-as (c .before .before .draw-glyph .ensures) (λ h g s p. refl) (λ h g s p. draw-there _ _ _ _ (c .before .before .before .before .before .before .before .before .glyph-of .ensures) _ _ _ _ (c .before .before .before .before .before .before .glyph .given .1) (c .before .before .before .rest .ensures))
 
 pub draw-in-spec : {M : Type 1} → statement M
 draw-in-spec =

@@ -9,13 +9,13 @@ refused-requires : tie.Need-refused-requires
 refused-requires c κs = search needs
 
 returns : tie.Need-returns
-returns c = obeys-refused 17 (c .refused .ensures) (λ g s p. refl) (λ g s p t. place-no-column _ _ _ _ _ _ _ _ t (search needs))
+returns c = obeys-refused 17 (c .refused .ensures) (λ h g s p. refl) (λ h g s p. place-no-column _ _ _ _ _ _ _ (search needs))
 
 refused-requires-2 : tie.Need-refused-requires-2
 refused-requires-2 c κs = search needs
 
 returns-2 : tie.Need-returns-2
-returns-2 c = obeys-refused 17 (c .refused2 .ensures) (λ g s p. refl) (λ g s p t. place-no-row _ _ _ _ _ _ _ _ t (search needs) (search needs))
+returns-2 c = obeys-refused 17 (c .refused2 .ensures) (λ h g s p. refl) (λ h g s p. place-no-row _ _ _ _ _ _ _ (search needs) (search needs))
 
 pixel-of-requires : tie.Need-pixel-of-requires
 pixel-of-requires c κs = search needs
@@ -30,7 +30,7 @@ refused-requires-3 : tie.Need-refused-requires-3
 refused-requires-3 c κs = search needs
 
 returns-3 : tie.Need-returns-3
-returns-3 c = obeys-refused 17 (c .refused3 .ensures) (λ g s p. refl) (λ g s p t. place-off-right _ _ _ _ _ _ _ _ t _ _ (c .before .before .before .before .before .before .before .if1 .left) (c .before .before .before .before .before .before .if2 .left) (c .before .before .before .before .pixel-of .ensures) (c .before .before .before .pixel-of2 .ensures) (search needs))
+returns-3 c = obeys-refused 17 (c .refused3 .ensures) (λ h g s p. refl) (λ h g s p. place-off-right _ _ _ _ _ _ _ _ _ (c .before .before .before .before .before .before .before .if1 .left) (c .before .before .before .before .before .before .if2 .left) (c .before .before .before .before .pixel-of .ensures) (c .before .before .before .pixel-of2 .ensures) (search needs))
 
 long-requires : tie.Need-long-requires
 long-requires c κs = search needs
@@ -39,7 +39,7 @@ refused-requires-4 : tie.Need-refused-requires-4
 refused-requires-4 c κs = search needs
 
 returns-4 : tie.Need-returns-4
-returns-4 c = obeys-refused 17 (c .refused4 .ensures) (λ g s p. refl) (λ g s p t. place-off-below _ _ _ _ _ _ _ _ t _ _ (c .before .before .before .before .before .before .before .before .before .if1 .left) (c .before .before .before .before .before .before .before .before .if2 .left) (c .before .before .before .before .before .before .pixel-of .ensures) (c .before .before .before .before .before .pixel-of2 .ensures) (search needs) (search needs))
+returns-4 c = obeys-refused 17 (c .refused4 .ensures) (λ h g s p. refl) (λ h g s p. place-off-below _ _ _ _ _ _ _ _ _ (c .before .before .before .before .before .before .before .before .before .if1 .left) (c .before .before .before .before .before .before .before .before .if2 .left) (c .before .before .before .before .before .before .pixel-of .ensures) (c .before .before .before .before .before .pixel-of2 .ensures) (search needs) (search needs))
 
 cast-text : tie.Need-cast-text
 cast-text c = search needs
@@ -54,7 +54,7 @@ done-requires : tie.Need-done-requires
 done-requires c κs = search needs
 
 returns-5 : tie.Need-returns-5
-returns-5 c = obeys-done _ (done-with (c .before .put-text .ensures) (c .done .ensures)) (λ p. refl) (λ g s p t. place-done _ _ _ _ _ _ _ _ t _ _ (c .before .before .before .before .before .before .before .before .before .before .if1 .left) (c .before .before .before .before .before .before .before .before .before .if2 .left) (c .before .before .before .before .before .before .before .pixel-of .ensures) (c .before .before .before .before .before .before .pixel-of2 .ensures) (search needs) (search needs))
+returns-5 c = obeys-done _ (done-with (c .before .put-text .ensures) (c .done .ensures)) (λ p. refl) (λ h g s p. place-done _ _ _ _ _ _ _ _ _ (c .before .before .before .before .before .before .before .before .before .before .if1 .left) (c .before .before .before .before .before .before .before .before .before .if2 .left) (c .before .before .before .before .before .before .before .pixel-of .ensures) (c .before .before .before .before .before .before .pixel-of2 .ensures) (search needs) (search needs))
 
 pub place-by-spec : {M : Type 1} → statement M
 place-by-spec =

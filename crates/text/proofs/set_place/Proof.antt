@@ -37,13 +37,13 @@ refused-requires : tie.Need-refused-requires
 refused-requires c κs = search needs
 
 returns : tie.Need-returns
-returns c = obeys-as (c .place-by .ensures) (λ g h. h) (λ g s p. refl) (λ g s p t. place-opened _ _ _ _ _ _ t _ _ _ (from-built-in _ _ _ _ (c .before .before .before .find-font .ensures) _ (search needs) refl) (sym width-is) (sym height-is))
+returns c = obeys-as (c .place-by .ensures) (λ h g s p. refl) (λ h g s p. place-opened _ _ _ _ _ _ _ _ (from-built-in _ _ _ _ (c .before .before .before .find-font .ensures) _ (search needs) refl) (sym width-is) (sym height-is))
 
 returns-2 : tie.Need-returns-2
-returns-2 c = obeys-as (c .place-by2 .ensures) (λ g h. h) (λ g s p. refl) (λ g s p t. place-opened _ _ _ _ _ _ t _ _ _ (from-stored _ _ _ _ (c .before .before .before .before .before .before .before .find-font .ensures) _ _ _ (c .before .before .before .before .before .source .given .1) (c .before .before .before .part .ensures)) (c .before .before .nominal-width .ensures) (c .before .height .ensures))
+returns-2 c = obeys-as (c .place-by2 .ensures) (λ h g s p. refl) (λ h g s p. place-opened _ _ _ _ _ _ _ _ (from-stored _ _ _ _ (c .before .before .before .before .before .before .before .find-font .ensures) _ _ _ (c .before .before .before .before .before .source .given .1) (c .before .before .before .part .ensures)) (c .before .before .nominal-width .ensures) (c .before .height .ensures))
 
 returns-3 : tie.Need-returns-3
-returns-3 c = obeys-refused _ (c .refused .ensures) (λ g s p. refl) (λ g s p t. place-shut _ _ _ _ _ _ t _ (from-refused _ _ _ _ (c .before .before .before .before .find-font .ensures) _ (c .before .before .source2 .given .1)))
+returns-3 c = obeys-refused _ (c .refused .ensures) (λ h g s p. refl) (λ h g s p. place-shut _ _ _ _ _ _ (from-refused _ _ _ _ (c .before .before .before .before .find-font .ensures) _ (c .before .before .source2 .given .1)))
 
 pub set-place-spec : {M : Type 1} → statement M
 set-place-spec =

@@ -5,6 +5,7 @@
 use compare::compare::Pair;
 use compare::lists::run_seed;
 use compare::report::tell;
+use reference::glass::HEIGHTS;
 use std::io::{BufRead, BufReader, Write};
 use std::process::{Command, ExitCode, Stdio};
 use std::sync::atomic::{AtomicU64, Ordering};
@@ -109,6 +110,10 @@ fn worker(seconds: u64, from: u64) -> ExitCode {
             .map(|((_, answer), count)| format!("{answer}: {count}"))
             .collect();
         println!("{name} calls {} (by answer {})", counts.calls(name), answers.join(", "));
+    }
+    for height in HEIGHTS {
+        let fed: u64 = (0..=5).filter_map(|answer| counts.by_height.get(&("feed", height as u32, answer))).sum();
+        println!("feed calls with {height} rows {fed}");
     }
     println!("signals {:?}", counts.signals);
     println!("differences {differences}");

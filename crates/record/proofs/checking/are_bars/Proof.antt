@@ -3,19 +3,20 @@
 use Prim.Native.Nat.{_-_}
 use lib.ListN.{drop}
 use borrow.Author.Needs.{needs}
+use Rattle.record.specs.Layout.{barsAt}
 use Rattle.record.specs.Parts.{everyOf, slotHolds}
 use Rattle.record.proofs.Standing.{Tested, tested-start, tested-fails, tested-more, tested-end}
 use Rattle.record.proofs.checking.are_bars.Statement.{statement}
 use Rattle.record.proofs.checking.are_bars.Tie as tie
 
 abbrev Inv-loop : tie.InvT-loop
-Inv-loop r height i₀ i = Tested (slotHolds height) 7 43 r 16 (everyOf (slotHolds height) 7 (drop 43 r) 16) i
+Inv-loop r height i₀ i = Tested (slotHolds height) 7 barsAt r 16 (everyOf (slotHolds height) 7 (drop barsAt r) 16) i
 
 abbrev μ-loop : tie.MeasureT-loop
 μ-loop r height i₀ i = 16 - i
 
 loop-holds : tie.Need-loop-holds Inv-loop μ-loop
-loop-holds c = tested-start _ 7 43 _ 16
+loop-holds c = tested-start _ 7 barsAt _ 16
 
 mul-is-bar : tie.Need-mul-is-bar Inv-loop μ-loop
 mul-is-bar c = search needs

@@ -3,19 +3,20 @@
 use Prim.Native.Nat.{_-_}
 use lib.ListN.{drop}
 use borrow.Author.Needs.{needs}
+use Rattle.record.specs.Layout.{stripsAt}
 use Rattle.record.specs.Parts.{everyOf, stripHolds}
 use Rattle.record.proofs.Standing.{Tested, tested-start, tested-fails, tested-more, tested-end}
 use Rattle.record.proofs.checking.are_strips.Statement.{statement}
 use Rattle.record.proofs.checking.are_strips.Tie as tie
 
 abbrev Inv-loop : tie.InvT-loop
-Inv-loop r height i₀ i = Tested (stripHolds height) 5 155 r 8 (everyOf (stripHolds height) 5 (drop 155 r) 8) i
+Inv-loop r height i₀ i = Tested (stripHolds height) 5 stripsAt r 8 (everyOf (stripHolds height) 5 (drop stripsAt r) 8) i
 
 abbrev μ-loop : tie.MeasureT-loop
 μ-loop r height i₀ i = 8 - i
 
 loop-holds : tie.Need-loop-holds Inv-loop μ-loop
-loop-holds c = tested-start _ 5 155 _ 8
+loop-holds c = tested-start _ 5 stripsAt _ 8
 
 mul-is-strip : tie.Need-mul-is-strip Inv-loop μ-loop
 mul-is-strip c = search needs

@@ -3,13 +3,14 @@
 use Prim.Native.Nat.{_-_}
 use lib.ListN.{drop}
 use borrow.Author.Needs.{needs}
+use Rattle.record.specs.Layout.{barsAt}
 use Rattle.record.specs.Reading.{manyOf, slotOf}
 use Rattle.record.proofs.Filling.{Filled, filled-first, filled-more, filled-all}
 use Rattle.record.proofs.reading.bars_of.Statement.{statement}
 use Rattle.record.proofs.reading.bars_of.Tie as tie
 
 abbrev Inv-loop : tie.InvT-loop
-Inv-loop r bars₀ i₀ bars i = Filled bars (manyOf slotOf 7 (drop 43 r) 16) 16 i
+Inv-loop r bars₀ i₀ bars i = Filled bars (manyOf slotOf 7 (drop barsAt r) 16) 16 i
 
 abbrev μ-loop : tie.MeasureT-loop
 μ-loop r bars₀ i₀ bars i = 16 - i
@@ -18,7 +19,7 @@ slot-at-requires : tie.Need-slot-at-requires Inv-loop μ-loop
 slot-at-requires c κs = search needs
 
 loop-holds : tie.Need-loop-holds Inv-loop μ-loop
-loop-holds c = filled-first slotOf 7 43 (c .before .before .args .r .now) 15 (c .slot-at .ensures)
+loop-holds c = filled-first slotOf 7 barsAt (c .before .before .args .r .now) 15 (c .slot-at .ensures)
 
 mul-slot-at : tie.Need-mul-slot-at Inv-loop μ-loop
 mul-slot-at c = search needs
@@ -42,7 +43,7 @@ loop-less : tie.Need-loop-less Inv-loop μ-loop
 loop-less c = search needs
 
 loop-again : tie.Need-loop-again Inv-loop μ-loop
-loop-again c = filled-more slotOf 7 43 (c .before .before .before .before .before .args .r .now) (c .before .before .loop .inv) (search needs) (c .slot-at2 .ensures)
+loop-again c = filled-more slotOf 7 barsAt (c .before .before .before .before .before .args .r .now) (c .before .before .loop .inv) (search needs) (c .slot-at2 .ensures)
 
 returns : tie.Need-returns Inv-loop μ-loop
 returns c = filled-all (c .before .loop .inv) (search needs)

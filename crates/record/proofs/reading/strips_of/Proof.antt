@@ -3,13 +3,14 @@
 use Prim.Native.Nat.{_-_}
 use lib.ListN.{drop}
 use borrow.Author.Needs.{needs}
+use Rattle.record.specs.Layout.{stripsAt}
 use Rattle.record.specs.Reading.{manyOf, stripOf}
 use Rattle.record.proofs.Filling.{Filled, filled-first, filled-more, filled-all}
 use Rattle.record.proofs.reading.strips_of.Statement.{statement}
 use Rattle.record.proofs.reading.strips_of.Tie as tie
 
 abbrev Inv-loop : tie.InvT-loop
-Inv-loop r strips₀ i₀ strips i = Filled strips (manyOf stripOf 5 (drop 155 r) 8) 8 i
+Inv-loop r strips₀ i₀ strips i = Filled strips (manyOf stripOf 5 (drop stripsAt r) 8) 8 i
 
 abbrev μ-loop : tie.MeasureT-loop
 μ-loop r strips₀ i₀ strips i = 8 - i
@@ -18,7 +19,7 @@ strip-at-requires : tie.Need-strip-at-requires Inv-loop μ-loop
 strip-at-requires c κs = search needs
 
 loop-holds : tie.Need-loop-holds Inv-loop μ-loop
-loop-holds c = filled-first stripOf 5 155 (c .before .before .args .r .now) 7 (c .strip-at .ensures)
+loop-holds c = filled-first stripOf 5 stripsAt (c .before .before .args .r .now) 7 (c .strip-at .ensures)
 
 mul-strip-at : tie.Need-mul-strip-at Inv-loop μ-loop
 mul-strip-at c = search needs
@@ -42,7 +43,7 @@ loop-less : tie.Need-loop-less Inv-loop μ-loop
 loop-less c = search needs
 
 loop-again : tie.Need-loop-again Inv-loop μ-loop
-loop-again c = filled-more stripOf 5 155 (c .before .before .before .before .before .args .r .now) (c .before .before .loop .inv) (search needs) (c .strip-at2 .ensures)
+loop-again c = filled-more stripOf 5 stripsAt (c .before .before .before .before .before .args .r .now) (c .before .before .loop .inv) (search needs) (c .strip-at2 .ensures)
 
 returns : tie.Need-returns Inv-loop μ-loop
 returns c = filled-all (c .before .loop .inv) (search needs)

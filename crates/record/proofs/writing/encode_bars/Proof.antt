@@ -3,6 +3,7 @@
 use mathlib.Core.Path.{refl}
 use Prim.Native.Nat.{_-_}
 use borrow.Author.Needs.{needs}
+use Rattle.record.specs.Layout.{barsAt}
 use Rattle.record.specs.Writing.{slotBytes}
 use Rattle.state.specs.State.{noBar}
 use Rattle.record.proofs.Overwriting.{Laying, laying-start, laying-step, laying-end}
@@ -10,13 +11,13 @@ use Rattle.record.proofs.writing.encode_bars.Statement.{statement}
 use Rattle.record.proofs.writing.encode_bars.Tie as tie
 
 abbrev Inv-loop : tie.InvT-loop
-Inv-loop out₀ bars i₀ out i = Laying slotBytes 7 43 bars out₀ out i
+Inv-loop out₀ bars i₀ out i = Laying slotBytes 7 barsAt bars out₀ out i
 
 abbrev μ-loop : tie.MeasureT-loop
 μ-loop out₀ bars i₀ out i = 16 - i
 
 loop-holds : tie.Need-loop-holds Inv-loop μ-loop
-loop-holds c = laying-start slotBytes 7 43 _ _
+loop-holds c = laying-start slotBytes 7 barsAt _ _
 
 mul-slot : tie.Need-mul-slot Inv-loop μ-loop
 mul-slot c = search needs
@@ -46,13 +47,13 @@ loop-less : tie.Need-loop-less Inv-loop μ-loop
 loop-less c = search needs
 
 loop-again : tie.Need-loop-again Inv-loop μ-loop
-loop-again c = laying-step slotBytes 7 43 (c .before .before .before .before .before .before .before .before .loop .inv) noBar (λ a. refl) (search needs) (c .before .before .before .before .before .slot-bytes .ensures) (c .before .before .put .ensures)
+loop-again c = laying-step slotBytes 7 barsAt (c .before .before .before .before .before .before .before .before .loop .inv) noBar (λ a. refl) (search needs) (c .before .before .before .before .before .slot-bytes .ensures) (c .before .before .put .ensures)
 
 same-length : tie.Need-same-length Inv-loop μ-loop
 same-length c = search needs
 
 returns : tie.Need-returns Inv-loop μ-loop
-returns c = (laying-end slotBytes 7 43 (c .before .loop .inv) (search needs), search needs)
+returns c = (laying-end slotBytes 7 barsAt (c .before .loop .inv) (search needs), search needs)
 
 pub encode-bars-spec : {M : Type 1} → statement M
 encode-bars-spec =

@@ -3,6 +3,7 @@
 use mathlib.Core.Path.{refl}
 use Prim.Native.Nat.{_-_}
 use borrow.Author.Needs.{needs}
+use Rattle.record.specs.Layout.{stripsAt}
 use Rattle.record.specs.Writing.{stripBytes}
 use Rattle.state.specs.State.{noStrip}
 use Rattle.record.proofs.Overwriting.{Laying, laying-start, laying-step, laying-end}
@@ -10,13 +11,13 @@ use Rattle.record.proofs.writing.encode_strips.Statement.{statement}
 use Rattle.record.proofs.writing.encode_strips.Tie as tie
 
 abbrev Inv-loop : tie.InvT-loop
-Inv-loop out₀ strips i₀ out i = Laying stripBytes 5 155 strips out₀ out i
+Inv-loop out₀ strips i₀ out i = Laying stripBytes 5 stripsAt strips out₀ out i
 
 abbrev μ-loop : tie.MeasureT-loop
 μ-loop out₀ strips i₀ out i = 8 - i
 
 loop-holds : tie.Need-loop-holds Inv-loop μ-loop
-loop-holds c = laying-start stripBytes 5 155 _ _
+loop-holds c = laying-start stripBytes 5 stripsAt _ _
 
 mul-strip : tie.Need-mul-strip Inv-loop μ-loop
 mul-strip c = search needs
@@ -46,13 +47,13 @@ loop-less : tie.Need-loop-less Inv-loop μ-loop
 loop-less c = search needs
 
 loop-again : tie.Need-loop-again Inv-loop μ-loop
-loop-again c = laying-step stripBytes 5 155 (c .before .before .before .before .before .before .before .before .loop .inv) noStrip (λ a. refl) (search needs) (c .before .before .before .before .before .strip-bytes .ensures) (c .before .before .put .ensures)
+loop-again c = laying-step stripBytes 5 stripsAt (c .before .before .before .before .before .before .before .before .loop .inv) noStrip (λ a. refl) (search needs) (c .before .before .before .before .before .strip-bytes .ensures) (c .before .before .put .ensures)
 
 same-length : tie.Need-same-length Inv-loop μ-loop
 same-length c = search needs
 
 returns : tie.Need-returns Inv-loop μ-loop
-returns c = (laying-end stripBytes 5 155 (c .before .loop .inv) (search needs), search needs)
+returns c = (laying-end stripBytes 5 stripsAt (c .before .loop .inv) (search needs), search needs)
 
 pub encode-strips-spec : {M : Type 1} → statement M
 encode-strips-spec =

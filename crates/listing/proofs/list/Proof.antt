@@ -2,8 +2,8 @@ use mathlib.Core.Path.{sym}
 use lib.Seq.{length-take-le}
 use native.Mathlib.Omega.{arith}
 use borrow.Author.Needs.{needs}
-use Rattle.listing.proofs.main.Statement.{statement}
-use Rattle.listing.proofs.main.Tie as tie
+use Rattle.listing.proofs.list.Statement.{statement}
+use Rattle.listing.proofs.list.Tie as tie
 
 slice-aggregate-display-start : tie.Need-slice-aggregate-display-start
 slice-aggregate-display-start c = search needs
@@ -13,9 +13,6 @@ slice-aggregate-display-start-2 c = search needs
 
 slice-aggregate-display-start-3 : tie.Need-slice-aggregate-display-start-3
 slice-aggregate-display-start-3 c = search needs
-
-slice-aggregate-display-start-4 : tie.Need-slice-aggregate-display-start-4
-slice-aggregate-display-start-4 c = search needs
 
 display-start-requires : tie.Need-display-start-requires
 display-start-requires c κs = search needs
@@ -29,14 +26,8 @@ slice-aggregate-obey-all-2 c = search needs
 slice-aggregate-obey-all-3 : tie.Need-slice-aggregate-obey-all-3
 slice-aggregate-obey-all-3 c = search needs
 
-slice-aggregate-obey-all-4 : tie.Need-slice-aggregate-obey-all-4
-slice-aggregate-obey-all-4 c = search needs
-
 obey-all-requires : tie.Need-obey-all-requires
 obey-all-requires c κs = search needs
-
-slice-aggregate-show-framebuffer : tie.Need-slice-aggregate-show-framebuffer
-slice-aggregate-show-framebuffer c = search needs
 
 show-framebuffer-requires : tie.Need-show-framebuffer-requires
 show-framebuffer-requires c κs = search needs
@@ -51,33 +42,34 @@ array-share-prefix-shown : tie.Need-array-share-prefix-shown
 array-share-prefix-shown c = search needs
 
 slice-aggregate-show-replies : tie.Need-slice-aggregate-show-replies
-slice-aggregate-show-replies c = sym (length-take-le (c .before .before .before .before .before .before .before .before .before .obey-all .result) (c .before .before .before .before .before .before .before .before .before .obey-all .last .1 .1 .1 .0) (omega (arith, c .before .before .before .before .before .before .before .before .before .obey-all .ensures, c .before .before .before .before .before .before .before .before .before .obey-all .kept .1 .1 .1 .0)))
+slice-aggregate-show-replies c = sym (length-take-le (c .before .before .before .before .before .before .before .before .before .before .obey-all .result) (c .before .before .before .before .before .before .before .before .before .before .obey-all .last .1 .1 .1 .0) (omega (arith, c .before .before .before .before .before .before .before .before .before .before .obey-all .ensures, c .before .before .before .before .before .before .before .before .before .before .obey-all .kept .1 .1 .1 .0)))
 
 show-replies-requires : tie.Need-show-replies-requires
 show-replies-requires c κs = search needs
 
+same-length : tie.Need-same-length
+same-length c = search needs
+
 returns : tie.Need-returns
 returns c = search needs
 
-pub main-spec : {M : Type 1} → statement M
-main-spec =
+pub list-spec : {M : Type 1} → statement M
+list-spec =
     tie.close
     (tie.spec
     slice-aggregate-display-start
     slice-aggregate-display-start-2
     slice-aggregate-display-start-3
-    slice-aggregate-display-start-4
     display-start-requires
     slice-aggregate-obey-all
     slice-aggregate-obey-all-2
     slice-aggregate-obey-all-3
-    slice-aggregate-obey-all-4
     obey-all-requires
-    slice-aggregate-show-framebuffer
     show-framebuffer-requires
     slice-aggregate-show-refusals
     show-refusals-requires
     array-share-prefix-shown
     slice-aggregate-show-replies
     show-replies-requires
+    same-length
     returns)
