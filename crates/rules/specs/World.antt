@@ -18,7 +18,7 @@ pub record World : Type 0 where
 abbrev pub world : List ℕ → List ℕ → State → World
 world g s t = record { framebuffer = g; store = s; state = t }
 
--- as the board chose them at start
+-- the framebuffer's rows, as the board chose them at start
 abbrev pub height : World → ℕ
 height w = w .state .height
 
