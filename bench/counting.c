@@ -8,7 +8,7 @@
 
 typedef struct {
     const char *name;
-    unsigned goal;       // instructions of a unit, at most
+    unsigned goal;       // instructions of a unit, at most; 0: there is none
     void (*start)(void); // before the work
     void (*call)(void);  // a unit; NULL: a byte of the stream, in large pieces
     const char *stream;
@@ -41,6 +41,13 @@ static const Work works[] = {
     {"text, a byte", 700, nothing, NULL, "text"},
     {"pixels, a byte", 90, nothing, NULL, "pixels"},
     {"mixed, a byte", 700, nothing, NULL, "mixed"},
+    {"bars, a byte", 0, nothing, NULL, "bars"},
+    {"rectangles and frames, a byte", 0, nothing, NULL, "rectangles and frames"},
+    {"lines, a byte", 0, nothing, NULL, "lines"},
+    {"strips, a byte", 0, nothing, NULL, "strips"},
+    {"saved bitmaps, a byte", 0, nothing, NULL, "saved bitmaps"},
+    {"in-line bitmaps, a byte", 0, nothing, NULL, "in-line bitmaps"},
+    {"upload and delete, a byte", 0, nothing, NULL, "upload and delete"},
 };
 
 // As many copies as there is room for, so that pieces are full.
@@ -51,22 +58,24 @@ static void repeat(Stream *s)
         put(s, s->bytes, once);
 }
 
-static void build(Stream *s, const char *name)
+static void build(Stream *setup, Stream *s, const char *name)
 {
     size_t i = 0;
     while (i < family_count && strcmp(families[i].name, name) != 0)
         i++;
-    if (i < family_count)
+    if (i < family_count) {
+        families[i].setup(setup);
         families[i].timed(s);
-    else
+    } else {
         mixed(s);
+    }
     repeat(s);
 }
 
 // Prints the work's name, units and goal. There is none of that number: exits with 1.
 int main(int count, char **arguments)
 {
-    static Stream stream;
+    static Stream setup, stream;
     const Work *work;
     unsigned long number, times, units = DISPLAY_QUEUE_CAPACITY, i;
     if (count != 3) {
@@ -81,7 +90,8 @@ int main(int count, char **arguments)
     sides[OURS].start();
     work->start();
     if (work->stream) {
-        build(&stream, work->stream);
+        build(&setup, &stream, work->stream);
+        feed_stream(&sides[OURS], &setup, PIECE);
         units = (unsigned long)stream.length;
     }
     printf("%s|%lu|%u\n", work->name, units, work->goal);

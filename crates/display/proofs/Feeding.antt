@@ -1,29 +1,41 @@
 -- The loop over a piece: what has been done so far, and what is left to take.
 -- Assumes nothing.
 use mathlib.Core.Path.{_≡_, _∙_, refl, sym, ap, subst}
-use mathlib.Core.List.{List, [], _∷_, _++_, append-nil}
+use mathlib.Core.Bool.{true}
+use mathlib.Core.List.{List, [], _∷_, _++_}
 use Prim.Native.Nat.{ℕ, suc, _+_, _-_, _<_, _≤_}
 use native.Mathlib.Omega.{arith}
-use native.Mathlib.Nat.{add-zero}
-use lib.ListN.{length, getD, take, drop, set, length-append, drop-of-length-le}
-use lib.Seq.{sets, length-sets, take-suc, drop-cons}
-use borrow.Author.Tests.{eq-eqb, ne-eqb, lt-ltb, le-ltb}
+use lib.ListN.{length, getD, take, drop, set, replicate, length-append, length-drop, take-append-drop, drop-of-length-le}
+use lib.Seq.{sets, take-all, length-sets, length-take-le, take-add, drop-cons, drop-drop, getD-drop}
+use borrow.Author.Tests.{eq-eqb, ne-eqb, eqb-true, lt-ltb}
+use Rattle.file_laws.proofs.Written.{and-both}
+use Rattle.queue.specs.Record.{Bytes}
+use Rattle.state.specs.declared.Phase.{Phase}
+use Rattle.state.specs.declared.Phase.the-variants.{Idle}
+use Rattle.state.specs.declared.Line.{Line}
+use Rattle.state.specs.declared.Port.{Port}
 use Rattle.state.specs.declared.Panel.{Panel}
-use Rattle.state.specs.State.{state}
+use Rattle.state.specs.State.{state, lineOf, noArgs}
+use Rattle.state.specs.Soundness.{every}
+use Rattle.state.specs.Canonical.{isZero, canonicalPhase, canonicalArguments, canonicalPort, canonicalPanel, canonicalState}
 use Rattle.record.specs.Reading.{panelOf}
 use Rattle.record.specs.Writing.{panelBytes}
 use Rattle.record.proofs.Back.{panel-back}
 use Rattle.panel.proofs.Laws.{revised-whole}
-use Rattle.rules.specs.World.{World, world, height}
-use Rattle.rules.specs.Step.{step, replies, outcome}
+use Rattle.rules.specs.World.{World, world, height, port, panel, withPort, Outcome as Ruled}
+use Rattle.rules.specs.Step.{obey, outside, outcome, after, sent}
 use Rattle.rules.specs.Calls.{run, said, taken}
 use Rattle.rules.proofs.Streams.{run-append, said-append}
-use Rattle.rules.proofs.Replies.{replies-most}
 use Rattle.outcome.specs.declared.Reply.{Reply}
 use Rattle.outcome.specs.Outcome.{sentBy}
 use Rattle.outcome.specs.Contract.{Held, worldOf, Came}
+use Rattle.calls.specs.Bytes.{AllBytes}
 use Rattle.calls.specs.Memory.{Kept}
-use Rattle.calls.proofs.Demands.{kept-step}
+use Rattle.calls.proofs.Lists.{take-bytes}
+use Rattle.calls.proofs.Demands.{kept-run}
+use Rattle.interpreter.specs.Whole.{commandIn, fixedArguments, wholeIn}
+use Rattle.interpreter.proofs.Whole.{sets-append}
+use Rattle.interpreter.proofs.One.{AsOne, whole-one, byte-one, whole-fits}
 use Rattle.display.specs.Running.{Written, Ran}
 
 -- ---- a reply written
@@ -53,12 +65,6 @@ module _ (r : Reply) (g : List ℕ) (at : ℕ) where
       let n : at + 1 ≡ suc at = omega arith in
       rw (two-sent r h e) (refl, ap (λ (k : ℕ). set (set g at (r .first)) k (r .second)) n)
 
-sets-append : (g : List ℕ) (i : ℕ) (l m : List ℕ) → sets g i (l ++ m) ≡ sets (sets g i l) (i + length l) m
-sets-append g i [] m = ap (λ (k : ℕ). sets g k m) (sym (add-zero i))
-sets-append g i (a ∷ l) m =
-    let n : suc i + length l ≡ i + suc (length l) = omega arith in
-    sets-append (set g i a) (suc i) l m ∙ ap (λ (k : ℕ). sets (sets (set g i a) (suc i) l) k m) n
-
 -- ---- so far
 
 pub record Feeding (w₀ : World) (p r₀ : List ℕ) (w : World) (r : List ℕ) (at i : ℕ) : Type 0 where
@@ -82,18 +88,6 @@ room-known {w₀ = w₀} {p = p} {r₀ = r₀} {r = r} {i = i} f =
     let n : length r ≡ length r₀ = ap length (f .sent) ∙ length-sets r₀ 0 (said w₀ (take i p)) in
     (n, omega (arith, n, f .room))
 
-run-one : (w : World) (b : ℕ) → run w (b ∷ []) ≡ step w b
-unfolding run
-run-one w b = refl
-
-said-one : (w : World) (b : ℕ) → said w (b ∷ []) ≡ replies w b
-unfolding said
-said-one w b = append-nil (replies w b)
-
-taken-more : (w : World) (room b : ℕ) (l : List ℕ) → 2 ≤ room → taken w room (b ∷ l) ≡ 1 + taken (step w b) (room - length (replies w b)) l
-unfolding taken
-taken-more w room b l h = rw (le-ltb room 2 h)
-
 taken-stop : (w : World) (room b : ℕ) (l : List ℕ) → room < 2 → taken w room (b ∷ l) ≡ 0
 unfolding taken
 taken-stop w room b l h = rw (lt-ltb room 2 h)
@@ -102,53 +96,107 @@ taken-none : (w : World) (room : ℕ) → taken w room [] ≡ 0
 unfolding taken
 taken-none w room = refl
 
-plus-one : (a k : ℕ) → a + (1 + k) ≡ a + 1 + k
-plus-one a k = omega arith
+further : (a m n k : ℕ) → n ≡ m → a + (n + k) ≡ a + m + k
+further a m n k e = omega (arith, e)
 
-pub feeding-step : {w₀ w : World} {p r₀ r : List ℕ} {at i : ℕ} (b : ℕ) (v : World) (l q : List ℕ) (at' : ℕ) → Feeding w₀ p r₀ w r at i → i < length p → b ≡ getD p i 0 → b < 256
-    → 2 ≤ length r - at → v ≡ step w b → l ≡ replies w b → at' ≡ at + length l → q ≡ sets r at l → Feeding w₀ p r₀ v q at' (i + 1)
-feeding-step {w₀} {w} {p} {r₀} {r} {at} {i} b v l q at' f h eb small free ev el ea eq =
-    let s1 : i + 1 ≡ suc i = omega arith in
-    let t : take (i + 1) p ≡ take i p ++ (b ∷ []) = ap (λ (n : ℕ). take n p) s1 ∙ take-suc p i 0 h ∙ ap (λ (x : ℕ). take i p ++ (x ∷ [])) (sym eb) in
-    let d : drop i p ≡ b ∷ drop (i + 1) p = drop-cons p i 0 h ∙ ap (λ (x : ℕ). x ∷ drop (suc i) p) (sym eb) ∙ ap (λ (n : ℕ). b ∷ drop n p) (sym s1) in
+-- ---- bytes obeyed at once
+
+zeros-are : (l : List ℕ) → every isZero l ≡ true → l ≡ replicate (length l) 0
+unfolding every
+zeros-are [] e = refl
+zeros-are (a ∷ l) e = let p = and-both (isZero a) (every isZero l) e in rw (eqb-true a 0 (p .0)) (ap (λ (m : List ℕ). 0 ∷ m) (zeros-are l (p .1)))
+
+-- outside a command no argument stands
+calm : (w : World) → Kept w → port w .line .phase ≡ Idle → outside w ≡ w
+unfolding canonicalState canonicalPort
+calm w k f =
+    let t : Port = port w in
+    let c = and-both (canonicalPort t) (canonicalPanel (panel w)) (k .good .canonical) .0 in
+    let z = and-both (canonicalPhase (t .line .phase)) (canonicalArguments (t .line .phase) (t .line .args)) c .1 in
+    let a : t .line .args ≡ noArgs =
+    zeros-are (t .line .args) (subst (λ (x : Phase). canonicalArguments x (t .line .args) ≡ true) f z) ∙ ap (λ (n : ℕ). replicate n 0) (k .good .fits .port .args .six) in
+    ap (λ (x : Line). withPort w (record { line = x; text = t .text; drawing = t .drawing; flow = t .flow; refusals = t .refusals }))
+    (sym (ap (λ (x : Phase). lineOf x (t .line .args)) f ∙ ap (lineOf Idle) a))
+
+all-bytes : (l : List ℕ) → Bytes l → AllBytes l
+all-bytes [] h = Prim.tt
+all-bytes (b ∷ l) h = (h 0, all-bytes l (λ i. h (suc i)))
+
+-- what is lent of a piece at byte i: all that is left
+abbrev rest : List ℕ → ℕ → List ℕ
+rest p i = take (length p - i) (drop i p)
+
+rest-is : (p : List ℕ) (i : ℕ) → rest p i ≡ drop i p
+rest-is p i = take-all (length p - i) (drop i p) (omega (arith, length-drop i p))
+
+module _ (w : World) (p : List ℕ) (i n : ℕ) (k : Kept w) where
+  pub one-kept : {v : World} {l : List ℕ} → Bytes p → AsOne w (take n (drop i p)) v l → Kept v
+  one-kept b o =
+      subst Kept (o .next)
+      (kept-run w (take n (drop i p)) k (take-bytes n (drop i p) (all-bytes (drop i p) (λ j. subst (λ (x : ℕ). x < 256) (sym (getD-drop i p j 0)) (b (i + j))))))
+
+  -- a command that stands whole
+  pub command-one : n ≡ wholeIn (port w .line .phase) (rest p i) → 0 < n
+      → AsOne w (take n (drop i p)) (after w (obey (commandIn (rest p i)) (fixedArguments (rest p i)) w)) (sent (obey (commandIn (rest p i)) (fixedArguments (rest p i)) w))
+  command-one e h =
+      let r : List ℕ = rest p i in
+      let there : 0 < wholeIn (port w .line .phase) r = subst (λ (m : ℕ). 0 < m) e h in
+      subst (λ (x : List ℕ). AsOne w x (after w (obey (commandIn r) (fixedArguments r) w)) (sent (obey (commandIn r) (fixedArguments r) w)))
+      (ap (λ (m : ℕ). take m r) (sym e) ∙ ap (take n) (rest-is p i)) (whole-one w r (calm w k) there)
+
+pub command-fits : (p : List ℕ) (i n : ℕ) (f : Phase) → i < length p → n ≡ wholeIn f (rest p i) → 0 < n → i + n ≤ length p
+command-fits p i n f h e there =
+    let long : length (rest p i) ≡ length p - i = ap length (rest-is p i) ∙ length-drop i p in
+    omega (arith, e, long, whole-fits f (rest p i) (subst (λ (m : ℕ). 0 < m) e there))
+
+-- a byte
+pub byte-there : (w : World) (p : List ℕ) (i b : ℕ) → i < length p → b ≡ getD p i 0 → AsOne w (take 1 (drop i p)) (after w (outcome w b)) (sent (outcome w b))
+byte-there w p i b h e = rw (drop-cons p i 0 h, ← e) (byte-one w b)
+
+pub feeding-more : {w₀ w v' : World} {p r₀ r l' : List ℕ} {at i : ℕ} (n : ℕ) (v : World) (l q : List ℕ) (at' : ℕ) → Feeding w₀ p r₀ w r at i → Bytes p
+    → AsOne w (take n (drop i p)) v' l' → i + n ≤ length p → 2 ≤ length r - at → v ≡ v' → l ≡ l' → at' ≡ at + length l → q ≡ sets r at l → Feeding w₀ p r₀ v q at' (i + n)
+feeding-more {w₀} {w} {v'} {p} {r₀} {r} {l'} {at} {i} n v l q at' f bytes o fits free ev el ea eq =
+    let s : List ℕ = take n (drop i p) in
     let L : List ℕ = said w₀ (take i p) in
-    let sd : said w₀ (take (i + 1) p) ≡ L ++ l =
-    ap (said w₀) t ∙ said-append w₀ (take i p) (b ∷ []) ∙ ap (λ (x : World). L ++ said x (b ∷ [])) (sym (f .next)) ∙ ap (λ (x : List ℕ). L ++ x) (said-one w b ∙ sym el) in
-    let n = room-known f in
-    let few : length l ≤ 2 = subst (λ (x : List ℕ). length x ≤ 2) (sym el) (replies-most w b) in
-    let nx : v ≡ run w₀ (take (i + 1) p) =
-    ev ∙ ap (λ (x : World). step x b) (f .next) ∙ sym (run-one (run w₀ (take i p)) b) ∙ sym (run-append w₀ (take i p) (b ∷ [])) ∙ ap (run w₀) (sym t) in
+    let known = room-known f in
+    let sized : length s ≡ n = length-take-le n (drop i p) (omega (arith, length-drop i p)) in
+    let t : take (i + n) p ≡ take i p ++ s = take-add i n p in
+    let d : drop i p ≡ s ++ drop (i + n) p = sym (take-append-drop n (drop i p)) ∙ ap (λ (x : List ℕ). s ++ x) (drop-drop n i p) in
+    let sd : said w₀ (take (i + n) p) ≡ L ++ l =
+    ap (said w₀) t ∙ said-append w₀ (take i p) s ∙ ap (λ (x : World). L ++ said x s) (sym (f .next)) ∙ ap (λ (x : List ℕ). L ++ x) (o .sends ∙ sym el) in
+    let nx : v ≡ run w₀ (take (i + n) p) =
+    ev ∙ sym (o .next) ∙ ap (λ (x : World). run x s) (f .next) ∙ sym (run-append w₀ (take i p) s) ∙ ap (run w₀) (sym t) in
     let at0 : at ≡ 0 + length L = omega (arith, f .long) in
-    let st : q ≡ sets r₀ 0 (said w₀ (take (i + 1) p)) =
+    let st : q ≡ sets r₀ 0 (said w₀ (take (i + n) p)) =
     eq ∙ ap (λ (x : List ℕ). sets x at l) (f .sent) ∙ ap (λ (k : ℕ). sets (sets r₀ 0 L) k l) at0 ∙ sym (sets-append r₀ 0 L l) ∙ ap (sets r₀ 0) (sym sd) in
-    let lg : at' ≡ length (said w₀ (take (i + 1) p)) = ea ∙ ap (λ (k : ℕ). k + length l) (f .long) ∙ sym (length-append L l) ∙ ap length (sym sd) in
-    let m : length r₀ - at' ≡ length r₀ - at - length (replies w b) = omega (arith, ea, ap length el) in
-    let lf : taken w₀ (length r₀) p ≡ i + 1 + taken v (length r₀ - at') (drop (i + 1) p) =
-    f .left ∙ ap (λ (x : List ℕ). i + taken w (length r₀ - at) x) d ∙ ap (λ (k : ℕ). i + k) (taken-more w (length r₀ - at) b (drop (i + 1) p) (omega (arith, n .0)))
-    ∙ plus-one i (taken (step w b) (length r₀ - at - length (replies w b)) (drop (i + 1) p)) ∙ ap (λ (k : ℕ). i + 1 + taken (step w b) k (drop (i + 1) p)) (sym m)
-    ∙ ap (λ (x : World). i + 1 + taken x (length r₀ - at') (drop (i + 1) p)) (sym ev) in
+    let lg : at' ≡ length (said w₀ (take (i + n) p)) = ea ∙ ap (λ (k : ℕ). k + length l) (f .long) ∙ sym (length-append L l) ∙ ap length (sym sd) in
+    let few : length l ≤ 2 = subst (λ (x : List ℕ). length x ≤ 2) (sym el) (o .few) in
+    let z : length r₀ - at' ≡ length r₀ - at - length l' = omega (arith, ea, ap length el) in
+    let lf : taken w₀ (length r₀) p ≡ i + n + taken v (length r₀ - at') (drop (i + n) p) =
+    f .left ∙ ap (λ (x : List ℕ). i + taken w (length r₀ - at) x) d ∙ ap (λ (k : ℕ). i + k) (o .whole (length r₀ - at) (drop (i + n) p) (omega (arith, known .0)))
+    ∙ further i n (length s) (taken v' (length r₀ - at - length l') (drop (i + n) p)) sized ∙ ap (λ (k : ℕ). i + n + taken v' k (drop (i + n) p)) (sym z)
+    ∙ ap (λ (x : World). i + n + taken x (length r₀ - at') (drop (i + n) p)) (sym ev) in
     record {
-      kept = subst Kept (sym ev) (kept-step w b (f .kept) small);
-      within = omega arith;
+      kept = subst Kept (sym ev) (one-kept w p i n (f .kept) bytes o);
+      within = fits;
       next = nx;
       sent = st;
       long = lg;
-      room = omega (arith, few, n .0, f .room);
+      room = omega (arith, few, known .0, f .room);
       left = lf;
     }
 
--- ---- a byte obeyed: the panel's bytes are written as the layout has it, before and after it
+-- ---- what came of them: the panel's bytes are written as the layout has it, before and after
 
-pub record Stepped (m n : Held) (b : ℕ) (l : List ℕ) : Type 0 where
-  pub next : worldOf n ≡ step (worldOf m) b
-  pub sends : l ≡ replies (worldOf m) b
+pub record Stepped (m n : Held) (o : Ruled) (l : List ℕ) : Type 0 where
+  pub next : worldOf n ≡ after (worldOf m) o
+  pub sends : l ≡ sent o
   pub written : Written (n .panel-bytes)
 
-pub stepped : (m n : Held) (b : ℕ) (l : List ℕ) → Kept (worldOf m) → b < 256 → Written (m .panel-bytes) → Came m (outcome (worldOf m) b) n l → Stepped m n b l
-unfolding step replies
-stepped m n b l k small written came =
-    let v : World = step (worldOf m) b in
-    let f = kept-step (worldOf m) b k small .good .fits .panel in
+pub stepped : (m n : Held) (o : Ruled) (l : List ℕ) → Kept (after (worldOf m) o) → Written (m .panel-bytes) → Came m o n l → Stepped m n o l
+stepped m n o l k written came =
+    let v : World = after (worldOf m) o in
+    let f = k .good .fits .panel in
     let e : n .panel-bytes ≡ panelBytes (v .state .panel) =
     ap (λ (x : Held). x .panel-bytes) (came .next) ∙ revised-whole (m .panel-bytes) (v .state .panel) (written .again) (f .sixteen) (f .eight) in
     let q : panelOf (n .panel-bytes) ≡ v .state .panel = ap panelOf e ∙ panel-back (v .state .panel) (f .sixteen) (f .eight) in

@@ -2,7 +2,9 @@
 use canvas::is_height;
 use canvas::length_for;
 use directory::is_valid;
+use interpreter::obey_whole;
 use interpreter::step;
+use interpreter::whole_length;
 use outcome::Reply;
 use queue::HELD;
 use queue::LOST;
@@ -102,11 +104,23 @@ fn run(
                 replied: at,
             };
         }
+        let line = p.line;
+        let phase = line.phase;
+        let rest = &piece[i..];
+        let n = whole_length(phase, rest);
+        if n > 0 {
+            let o = obey_whole(framebuffer, store, panel, p, height, rest);
+            let next = o.port;
+            p = next;
+            i += n;
+            at = send(replies, at, o.reply);
+            continue;
+        }
         let o = step(framebuffer, store, panel, p, height, piece[i]);
-        at = send(replies, at, o.reply);
         let next = o.port;
         p = next;
         i += 1;
+        at = send(replies, at, o.reply);
     }
     Progress {
         port: p,

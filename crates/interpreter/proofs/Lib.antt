@@ -1,2 +1,4 @@
 pub mod Commands
 pub mod Phases
+pub mod Whole
+pub mod One

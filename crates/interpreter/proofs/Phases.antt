@@ -45,10 +45,10 @@ alone-character w b h = rw (ne-eqb b 254 h)
 
 -- ---- a command under way: its world is outside it, and a refusal ends it either way
 
-after-outside : (w : World) (o : Ruled) → after (outside w) o ≡ after w o
+pub after-under : (w : World) (f : Phase) (g : List ℕ) (o : Ruled) → after (withPort w (withPhase (port w) f g)) o ≡ after w o
 unfolding after refuse
-after-outside w (done v l) = refl
-after-outside w (refused n l) = refl
+after-under w f g (done v l) = refl
+after-under w f g (refused n l) = refl
 
 -- a command obeyed there is what the byte comes to
 obeyed-there : {t : Told} {G S P : Loan} {r : Outcome} (of : World → Ruled) (c : Command) (a : List ℕ) (pt out : Port) → out ≡ inPhaseOf pt Idle
@@ -62,10 +62,10 @@ obeyed-there {t = t} {G = G} {S = S} {P = P} {r = r} of c a pt out d e o =
           subst (λ (x : Port). Came (held k (found G g) (found S s) (found P p) x) (obey c a (world (found G g) (found S s) (state k x (panelOf (found P p)))))
           (held k (left G g) (left S s) (left P p) (r .port)) (sentBy (r .reply))) d (o .came h g s p) in
           rw (e k (found G g) (found S s) (panelOf (found P p)))
-          (record { next = q .next ∙ ap (heldBy (found P p)) (after-outside w (obey c a (outside w))); sends = q .sends });
+          (record { next = q .next ∙ ap (heldBy (found P p)) (after-under w Idle noArgs (obey c a (outside w))); sends = q .sends });
     }
 
-obey-nothing : (c : Command) (w : World) → obey c noArgs w ≡ obey c [] w
+pub obey-nothing : (c : Command) (w : World) → obey c noArgs w ≡ obey c [] w
 unfolding obey
 obey-nothing Unknown w = refl
 obey-nothing Clear w = refl
@@ -106,14 +106,14 @@ module _ (b : ℕ) (c : Command) (n : ℕ) (named : c ≡ commandOf b) (counted 
   unfolding code
   code-gathers w h = rw (← named, ← counted, ne-eqb n 0 h)
 
-  obeyed : (w : World) → n ≡ 0 → code w b ≡ obey c [] (outside w)
+  pub code-alone : (w : World) → n ≡ 0 → code w b ≡ obey c [] (outside w)
   unfolding code
-  obeyed w e = rw (← named, ← counted, eq-eqb n 0 e)
+  code-alone w e = rw (← named, ← counted, eq-eqb n 0 e)
 
   pub code-obeyed : {t : Told} {G S P : Loan} {r : Outcome} {pt : Port} (out : Port) → n ≡ 0 → out ≡ inPhaseOf pt Idle → Obeys t (obey c noArgs) out G S P r
       → Obeys t (λ w. code w b) pt G S P r
   code-obeyed {pt = pt} out e d o =
-      obeyed-there (λ w. code w b) c noArgs pt out d (λ h g s q. obeyed (world g s (state h pt q)) e ∙ sym (obey-nothing c (outside (world g s (state h pt q))))) o
+      obeyed-there (λ w. code w b) c noArgs pt out d (λ h g s q. code-alone (world g s (state h pt q)) e ∙ sym (obey-nothing c (outside (world g s (state h pt q))))) o
 
 -- ---- arguments
 
@@ -152,13 +152,13 @@ module _ (pt : Port) (k i b : ℕ) (t : Bool) (c : Command) (n : ℕ) (a : List 
   unfolding argument
   argument-kept r g s q h = rw (← tested, other, ← named, ← counted, lt-ltb (i + 1) n h, kept)
 
-  last : (r : ℕ) (g s : List ℕ) (q : Panel) → n ≤ i + 1 → argument (world g s (state r pt q)) k i b ≡ obey c a (outside (world g s (state r pt q)))
+  pub argument-last : (r : ℕ) (g s : List ℕ) (q : Panel) → n ≤ i + 1 → argument (world g s (state r pt q)) k i b ≡ obey c a (outside (world g s (state r pt q)))
   unfolding argument
-  last r g s q h = rw (← tested, other, ← named, ← counted, le-ltb (i + 1) n h, kept)
+  argument-last r g s q h = rw (← tested, other, ← named, ← counted, le-ltb (i + 1) n h, kept)
 
   pub argument-obeyed : {h : Told} {G S P : Loan} {r : Outcome} (out : Port) → n ≤ i + 1 → out ≡ inPhaseOf pt Idle → Obeys h (obey c a) out G S P r
       → Obeys h (λ w. argument w k i b) pt G S P r
-  argument-obeyed out l d o = obeyed-there (λ w. argument w k i b) c a pt out d (λ r g s q. last r g s q l) o
+  argument-obeyed out l d o = obeyed-there (λ w. argument w k i b) c a pt out d (λ r g s q. argument-last r g s q l) o
 
 -- ---- the phase
 

@@ -82,8 +82,14 @@ module _ (r : List ℕ) where
       ∙ port-parts (soundPhase p) (soundText t) (thresholdsFit (flowOf (drop 37 r))) (canonicalPhase p) (canonicalArguments p (argumentsIn (drop 3 r))) (stands (gatheringBytes p) 0 r)
       (stands (dataBytes p) 9 r && stands (uploadBytes p) 15 r) (stands (textBytes t) 23 r) (stands (otherBytes (portOf r)) 34 r)
 
-  pub port-holds : (p t o w b : Bool) → p ≡ phaseHolds r → t ≡ textHolds r → o ≡ otherHolds r → w ≡ (t && o) → b ≡ (p && w) → b ≡ portHolds r
-  port-holds p t o w b ep et eo ew eb = eb ∙ rw (ew, eo, et, ep) (sym port-is)
+  pub port-text-not : (t : Bool) → t ≡ textHolds r → not t ≡ true → false ≡ portHolds r
+  port-text-not t et n = sym (port-is ∙ rw (sym et ∙ not-true t n) (and-false (phaseHolds r)))
+
+  pub port-others-not : (o : Bool) → o ≡ otherHolds r → not o ≡ true → false ≡ portHolds r
+  port-others-not o eo n = sym (port-is ∙ rw (sym eo ∙ not-true o n, and-false (textHolds r)) (and-false (phaseHolds r)))
+
+  pub port-holds : (t o p : Bool) → t ≡ textHolds r → not t ≡ false → o ≡ otherHolds r → not o ≡ false → p ≡ phaseHolds r → p ≡ portHolds r
+  port-holds t o p et ht eo ho ep = ep ∙ sym (port-is ∙ rw (sym et ∙ not-false t ht, sym eo ∙ not-false o ho) (and-true (phaseHolds r)))
 
 -- ---- the panel
 
@@ -155,11 +161,27 @@ module _ (h : ℕ) (l : List ℕ) where
       (stands (manyBytes slotBytes (q .bars)) 0 l) (stands (manyBytes stripBytes (q .strips)) 0 (drop 112 l)) (stands (lastBytes q) 152 l)
       ∙ rw (bars-are, strips-are, last-is)
 
-pub panel-holds : (h : ℕ) (r : List ℕ) (g s f w t : Bool) → g ≡ (everyOf (slotHolds h) 7 (drop panelAt r) 16 && everyOf (stripHolds h) 5 (drop stripsAt r) 8)
-    → s ≡ (eqb (at r serialAt) 1 || clear serialAt 3 r) → f ≡ ltb (at r backlightAt) 2 → w ≡ (s && f) → t ≡ (g && w) → t ≡ panelHolds h (drop panelAt r)
-panel-holds h r g s f w t eg es ef ew et =
-    et
-    ∙ rw (ew, ef, es, eg, panel-is h (drop panelAt r), drop-drop panelStrips panelAt r, getD-drop panelAt r panelSerial 0, getD-drop panelAt r panelBacklight 0, stands-drop (replicate 3 0) panelAt panelSerial r)
+module _ (h : ℕ) (r : List ℕ) where
+  abbrev graphs : Bool
+  graphs = everyOf (slotHolds h) 7 (drop panelAt r) 16 && everyOf (stripHolds h) 5 (drop stripsAt r) 8
+
+  abbrev serial : Bool
+  serial = eqb (at r serialAt) 1 || clear serialAt 3 r
+
+  -- the same in the places of the record
+  panel-in : panelHolds h (drop panelAt r) ≡ (graphs && (serial && ltb (at r backlightAt) 2))
+  panel-in =
+      panel-is h (drop panelAt r)
+      ∙ rw (drop-drop panelStrips panelAt r, getD-drop panelAt r panelSerial 0, getD-drop panelAt r panelBacklight 0, stands-drop (replicate 3 0) panelAt panelSerial r)
+
+  pub panel-backlight-not : (f : Bool) → f ≡ ltb (at r backlightAt) 2 → not f ≡ true → false ≡ panelHolds h (drop panelAt r)
+  panel-backlight-not f ef n = sym (panel-in ∙ rw (sym ef ∙ not-true f n, and-false serial) (and-false graphs))
+
+  pub panel-serial-not : (s : Bool) → s ≡ serial → not s ≡ true → false ≡ panelHolds h (drop panelAt r)
+  panel-serial-not s es n = sym (panel-in ∙ rw (sym es ∙ not-true s n) (and-false graphs))
+
+  pub panel-holds : (f s g : Bool) → f ≡ ltb (at r backlightAt) 2 → not f ≡ false → s ≡ serial → not s ≡ false → g ≡ graphs → g ≡ panelHolds h (drop panelAt r)
+  panel-holds f s g ef hf es hs eg = eg ∙ sym (panel-in ∙ rw (sym ef ∙ not-false f hf, sym es ∙ not-false s hs) (and-true graphs))
 
 -- ---- all of it
 
@@ -204,14 +226,21 @@ module _ (r : List ℕ) where
       ∙ stands-next (portBytes (portOf r)) (heightIn r ∷ b) 0 portSize r (length-port (portOf r) (decoded-sized r .args))
       ∙ ap (λ (t : Bool). stands (portBytes (portOf r)) 0 r && t) (height-stands b ∙ sym (stands-front b panelAt r))
 
-  pub record-is : (k p q t : Bool) (h : ℕ) → k ≡ recognised r → not k ≡ false → p ≡ portHolds r → h ≡ heightIn r → q ≡ panelHolds h (drop panelAt r) → t ≡ (p && q)
-      → t ≡ soundRecord r
+  -- what is left to ask where the record is recognised
+  record-is : (k : Bool) → k ≡ recognised r → not k ≡ false → soundRecord r ≡ (portHolds r && panelHolds (heightIn r) (drop panelAt r))
   unfolding soundRecord recognised decodeOf soundState canonicalState portHolds panelHolds
-  record-is k p q t h ek k-is ep eh eq et =
+  record-is k ek hk =
       let a = portOf r in
       let b = panelOf (drop panelAt r) in
       let m = drop panelAt r in
-      let known = both (eqb (length r) recordSize) (isHeight (heightIn r)) (sym ek ∙ not-false k k-is) in
-      et ∙ rw (eq, ep, eh, known .0, known .1)
-      (sym (ap (λ (x : Bool). soundPort a && soundPanel (heightIn r) b && thresholdsFit (a .flow) && canonicalState (decodeOf r) && x) (written-again (eqb-true (length r) recordSize (known .0)))
-      ∙ record-parts (soundPort a) (soundPanel (heightIn r) b) (thresholdsFit (a .flow)) (canonicalPort a) (canonicalPanel b) (stands (portBytes a) 0 r) (stands (panelBytes b) 0 m)))
+      let known = both (eqb (length r) recordSize) (isHeight (heightIn r)) (sym ek ∙ not-false k hk) in
+      rw (known .0, known .1)
+      (ap (λ (x : Bool). soundPort a && soundPanel (heightIn r) b && thresholdsFit (a .flow) && canonicalState (decodeOf r) && x) (written-again (eqb-true (length r) recordSize (known .0)))
+      ∙ record-parts (soundPort a) (soundPanel (heightIn r) b) (thresholdsFit (a .flow)) (canonicalPort a) (canonicalPanel b) (stands (portBytes a) 0 r) (stands (panelBytes b) 0 m))
+
+  pub record-port-not : (k p : Bool) → k ≡ recognised r → not k ≡ false → p ≡ portHolds r → not p ≡ true → false ≡ soundRecord r
+  record-port-not k p ek hk ep n = sym (record-is k ek hk ∙ rw (sym ep ∙ not-true p n))
+
+  pub record-holds : (k p : Bool) (h : ℕ) (q : Bool) → k ≡ recognised r → not k ≡ false → p ≡ portHolds r → not p ≡ false → h ≡ heightIn r → q ≡ panelHolds h (drop panelAt r)
+      → q ≡ soundRecord r
+  record-holds k p h q ek hk ep hp eh eq = eq ∙ rw eh (sym (record-is k ek hk ∙ rw (sym ep ∙ not-false p hp)))

@@ -45,6 +45,10 @@ writing-start l g k n e =
     let z : k + 0 ≡ k = omega arith in
     record { most = e; long = refl; within = omega arith; rest = rw z }
 
+-- there is room for all of them
+pub writing-inside : (l g : List ℕ) (k : ℕ) → k + length l ≤ length g → Writing l g g k (length l) 0
+writing-inside l g k h = writing-start l g k (length l) (omega arith)
+
 module _ {l g₀ g : List ℕ} {k n i : ℕ} (w : Writing l g₀ g k n i) where
   pub writing-step : {b : ℕ} → i < n → b ≡ getD l i 0 → Writing l g₀ (set g (k + i) b) k n (i + 1)
   unfolding over
@@ -103,6 +107,10 @@ over-front l g =
     let z : 0 + length l ≡ length l = omega arith in
     let n : length g - 0 ≡ length g = omega arith in
     over-is l 0 g (omega arith) ∙ rw (z, n)
+
+-- of one length: nothing of g is left
+pub over-all : (l g : List ℕ) → length l ≡ length g → over l 0 g ≡ l
+over-all l g e = over-front l g ∙ rw (take-all (length g) l (omega arith), drop-of-length-le g {i = length l} (omega arith)) (append-nil l)
 
 -- ---- thing by thing, each of `size` bytes: those in front of number i are written
 

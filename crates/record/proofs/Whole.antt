@@ -15,7 +15,7 @@ use Rattle.record.specs.Layout.{portSize, heightAt, panelAt, panelSize, 
 use Rattle.record.specs.Writing.{manyBytes, gatheringBytes, dataBytes, uploadBytes, textBytes, otherBytes, phaseBytes, portBytes}
 use Rattle.record.specs.Writing.{slotBytes, stripBytes, lastBytes, panelBytes, encodeOf, over}
 use Rattle.record.specs.Record.{encodedIn}
-use Rattle.record.proofs.Overwriting.{over-next, over-front, length-manyBytes}
+use Rattle.record.proofs.Overwriting.{over-next, over-front, over-all, length-manyBytes}
 
 -- ---- lengths
 
@@ -98,6 +98,10 @@ port-written p g g1 g2 g3 t o s e1 et e2 eo e3 =
     sym (over-next (phaseBytes p) (textBytes (p .text) ++ otherBytes p) 0 23 g g1 (length-phase p s) e1
     ∙ over-next (textBytes (p .text)) (otherBytes p) 23 11 g1 g2 refl (same-over t _ 23 g1 g2 et e2)
     ∙ sym (same-over o _ 34 g2 g3 eo e3))
+
+-- w, of the size of a port, is written and then put over g
+pub port-short : (p : Port) (g g1 w w1 : List ℕ) → length (p .line .args) ≡ 6 → length w ≡ portSize → w1 ≡ over (portBytes p) 0 w → g1 ≡ over w1 0 g → g1 ≡ over (portBytes p) 0 g
+port-short p g g1 w w1 s n ew e1 = same-over w1 (portBytes p) 0 g g1 (ew ∙ over-all (portBytes p) w (length-port p s ∙ sym n)) e1
 
 pub panel-written : (q : Panel) (g g1 g2 g3 l : List ℕ) → length (q .bars) ≡ 16 → length (q .strips) ≡ 8 → g1 ≡ over (manyBytes slotBytes (q .bars)) barsAt g
     → g2 ≡ over (manyBytes stripBytes (q .strips)) stripsAt g1 → l ≡ lastBytes q → g3 ≡ over l serialAt g2 → g3 ≡ over (panelBytes q) barsAt g

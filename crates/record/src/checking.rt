@@ -43,7 +43,7 @@ fn wide(x: u8) -> usize
     x as usize
 }
 
-pub fn both(a: bool, b: bool) -> bool
+fn both(a: bool, b: bool) -> bool
     ensures { λ r. ⌜ r ≡ (a && b) ⌝ }
 {
     if a { b } else { false }
@@ -152,7 +152,13 @@ pub fn is_port(r: &[u8]) -> bool
     requires { ⌜ length (now r) ≡ recordSize ⌝ }
     ensures { λ b. ⌜ b ≡ portHolds (now (r .entry)) ⌝ }
 {
-    both(is_phase(r), both(is_text(r), are_others(r)))
+    if !is_text(r) {
+        return false;
+    }
+    if !are_others(r) {
+        return false;
+    }
+    is_phase(r)
 }
 
 fn is_bar(r: &[u8], k: usize, height: u8) -> bool
@@ -236,6 +242,11 @@ pub fn is_panel(r: &[u8], height: u8) -> bool
     requires { ⌜ length (now r) ≡ recordSize ⌝ }
     ensures { λ b. ⌜ b ≡ panelHolds height (drop panelAt (now (r .entry))) ⌝ }
 {
-    let last = both(is_serial(r), is_flag(r, BACKLIGHT));
-    both(are_graphs(r, height), last)
+    if !is_flag(r, BACKLIGHT) {
+        return false;
+    }
+    if !is_serial(r) {
+        return false;
+    }
+    are_graphs(r, height)
 }

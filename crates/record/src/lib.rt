@@ -4,7 +4,6 @@ mod reading;
 mod writing;
 
 use canvas::is_height;
-use checking::both;
 use checking::is_panel;
 use checking::is_port;
 use queue::Flow;
@@ -135,5 +134,8 @@ pub fn is_record(r: &[u8]) -> bool
     if !is_recognised(r) {
         return false;
     }
-    both(is_port(r), is_panel(r, height_in(r)))
+    if !is_port(r) {
+        return false;
+    }
+    is_panel(r, height_in(r))
 }

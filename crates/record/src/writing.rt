@@ -22,10 +22,10 @@ use state::Strip;
 use state::Text;
 ghost use mathlib.Core.Path.{_≡_};
 ghost use mathlib.Core.List.{[], _∷_};
-ghost use Prim.Native.Nat.{_-_, _≤_, min, _<_};
+ghost use Prim.Native.Nat.{_+_, _-_, _≤_, min, _<_};
 ghost use lib.ListN.{length};
 ghost use Rattle.queue.specs.Record.{bit};
-ghost use Rattle.record.specs.Layout.{phaseAt, argumentsAt, heightAt, barsAt, stripsAt, recordSize};
+ghost use Rattle.record.specs.Layout.{phaseAt, argumentsAt, portSize, heightAt, barsAt, stripsAt, recordSize};
 ghost use Rattle.record.specs.Writing.{low, high, manyBytes, gatheringBytes, dataBytes, uploadBytes, textBytes, otherBytes, phaseBytes, portBytes};
 ghost use Rattle.record.specs.Writing.{slotBytes, stripBytes, lastBytes, panelBytes, over};
 
@@ -65,6 +65,18 @@ fn put(out: &mut [u8], k: usize, l: &[u8])
     let n = room(l.len(), out.len(), k);
     let mut i = 0;
     while i < n {
+        out[k + i] = l[i];
+        i += 1;
+    }
+}
+
+// Writes bytes from index k on, where there is room for all of them.
+fn put_inside(out: &mut [u8], k: usize, l: &[u8])
+    requires { ⌜ k + length (now l) ≤ length (now out) ⌝ }
+    ensures { λ _. ⌜ now (out .exit) ≡ over (now (l .entry)) k (now (out .entry)) ⌝ }
+{
+    let mut i = 0;
+    while i < l.len() {
         out[k + i] = l[i];
         i += 1;
     }
@@ -193,36 +205,53 @@ fn other_bytes(p: Port) -> [u8; 9]
 }
 
 fn encode_arguments(args: [u8; ARGUMENTS], out: &mut [u8])
+    requires { ⌜ portSize ≤ length (now out) ⌝ }
     ensures { λ _. ⌜ (now (out .exit) ≡ over args argumentsAt (now (out .entry))) × (length args ≡ 6) ⌝ }
 {
-    put(out, GATHERED, &args);
+    put_inside(out, GATHERED, &args);
 }
 
 fn encode_phase(port: Port, out: &mut [u8])
+    requires { ⌜ portSize ≤ length (now out) ⌝ }
     ensures { λ _. ⌜ (now (out .exit) ≡ over (phaseBytes port) phaseAt (now (out .entry))) × (length (port .line .args) ≡ 6) ⌝ }
 {
     let line = port.line;
     let phase = line.phase;
     let gathering = gathering_bytes(phase);
-    put(out, PHASE, &gathering);
+    put_inside(out, PHASE, &gathering);
     let args = line.args;
     encode_arguments(args, out);
     let inline = data_bytes(phase);
-    put(out, INLINE, &inline);
+    put_inside(out, INLINE, &inline);
     let upload = upload_bytes(phase);
-    put(out, UPLOAD, &upload);
+    put_inside(out, UPLOAD, &upload);
+}
+
+// The bytes of a port over the first bytes of a record that has room for them all.
+fn encode_inside(port: Port, out: &mut [u8])
+    requires { ⌜ portSize ≤ length (now out) ⌝ }
+    ensures { λ _. ⌜ (now (out .exit) ≡ over (portBytes port) phaseAt (now (out .entry))) × (length (port .line .args) ≡ 6) ⌝ }
+{
+    encode_phase(port, out);
+    let text = port.text;
+    let bytes = text_bytes(text);
+    put_inside(out, TEXT, &bytes);
+    let other = other_bytes(port);
+    put_inside(out, DRAWING, &other);
 }
 
 // Writes the bytes of a port over the first bytes, as far as there are any; all others stay.
 pub fn encode_port(port: Port, out: &mut [u8])
     ensures { λ _. ⌜ (now (out .exit) ≡ over (portBytes port) phaseAt (now (out .entry))) × (length (port .line .args) ≡ 6) ⌝ }
 {
-    encode_phase(port, out);
-    let text = port.text;
-    let bytes = text_bytes(text);
-    put(out, TEXT, &bytes);
-    let other = other_bytes(port);
-    put(out, DRAWING, &other);
+    if out.len() >= HEIGHT {
+        encode_inside(port, out);
+        return;
+    }
+    // A shorter record gets as many of them as it has room for.
+    let mut whole = [0; HEIGHT];
+    encode_inside(port, &mut whole);
+    put(out, PHASE, &whole);
 }
 
 pub fn encode_height(height: u8, out: &mut [u8])

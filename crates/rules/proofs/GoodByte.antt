@@ -36,7 +36,7 @@ use Rattle.rules.proofs.GoodCommands.{clear-good, colour-good, pixel-go
 use Rattle.rules.proofs.GoodPhases.{settled, idle-good, corners-good, inline-good, upload-good, data-good, delete-good, purge-good}
 
 -- at most six arguments
-six-most : (c : Command) → argumentsOf c ≤ 6
+pub six-most : (c : Command) → argumentsOf c ≤ 6
 six-most Unknown = omega arith
 six-most Clear = omega arith
 six-most Home = omega arith

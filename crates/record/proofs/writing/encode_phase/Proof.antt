@@ -8,11 +8,11 @@ use Rattle.record.proofs.writing.encode_phase.Tie as tie
 gathering-bytes-requires : tie.Need-gathering-bytes-requires
 gathering-bytes-requires c κs = search needs
 
-slice-aggregate-put : tie.Need-slice-aggregate-put
-slice-aggregate-put c = search needs
+slice-aggregate-put-inside : tie.Need-slice-aggregate-put-inside
+slice-aggregate-put-inside c = search needs
 
-put-requires : tie.Need-put-requires
-put-requires c κs = search needs
+put-inside-requires : tie.Need-put-inside-requires
+put-inside-requires c κs = search needs
 
 encode-arguments-requires : tie.Need-encode-arguments-requires
 encode-arguments-requires c κs = search needs
@@ -20,40 +20,40 @@ encode-arguments-requires c κs = search needs
 data-bytes-requires : tie.Need-data-bytes-requires
 data-bytes-requires c κs = search needs
 
-slice-aggregate-put-2 : tie.Need-slice-aggregate-put-2
-slice-aggregate-put-2 c = search needs
+slice-aggregate-put-inside-2 : tie.Need-slice-aggregate-put-inside-2
+slice-aggregate-put-inside-2 c = search needs
 
-put-requires-2 : tie.Need-put-requires-2
-put-requires-2 c κs = search needs
+put-inside-requires-2 : tie.Need-put-inside-requires-2
+put-inside-requires-2 c κs = search needs
 
 upload-bytes-requires : tie.Need-upload-bytes-requires
 upload-bytes-requires c κs = search needs
 
-slice-aggregate-put-3 : tie.Need-slice-aggregate-put-3
-slice-aggregate-put-3 c = search needs
+slice-aggregate-put-inside-3 : tie.Need-slice-aggregate-put-inside-3
+slice-aggregate-put-inside-3 c = search needs
 
-put-requires-3 : tie.Need-put-requires-3
-put-requires-3 c κs = search needs
+put-inside-requires-3 : tie.Need-put-inside-requires-3
+put-inside-requires-3 c κs = search needs
 
 same-length : tie.Need-same-length
 same-length c = search needs
 
 returns : tie.Need-returns
-returns c = (phase-written _ _ _ _ _ _ _ _ _ (c .before .before .before .before .before .before .before .before .before .before .before .before .before .before .encode-arguments .ensures .1) (c .before .before .before .before .before .before .before .before .before .before .before .before .before .before .before .before .before .before .before .before .before .before .gathering-bytes .ensures) (c .before .before .before .before .before .before .before .before .before .before .before .before .before .before .before .before .before .before .before .put .ensures) (c .before .before .before .before .before .before .before .before .before .before .before .before .before .before .encode-arguments .ensures .0) (c .before .before .before .before .before .before .before .before .before .before .before .data-bytes .ensures) (c .before .before .before .before .before .before .before .before .put2 .ensures) (c .before .before .before .before .before .upload-bytes .ensures) (c .before .before .put3 .ensures), c .before .before .before .before .before .before .before .before .before .before .before .before .before .before .encode-arguments .ensures .1)
+returns c = (phase-written _ _ _ _ _ _ _ _ _ (c .before .before .before .before .before .before .before .before .before .before .before .before .before .before .encode-arguments .ensures .1) (c .before .before .before .before .before .before .before .before .before .before .before .before .before .before .before .before .before .before .before .before .before .before .gathering-bytes .ensures) (c .before .before .before .before .before .before .before .before .before .before .before .before .before .before .before .before .before .before .before .put-inside .ensures) (c .before .before .before .before .before .before .before .before .before .before .before .before .before .before .encode-arguments .ensures .0) (c .before .before .before .before .before .before .before .before .before .before .before .data-bytes .ensures) (c .before .before .before .before .before .before .before .before .put-inside2 .ensures) (c .before .before .before .before .before .upload-bytes .ensures) (c .before .before .put-inside3 .ensures), c .before .before .before .before .before .before .before .before .before .before .before .before .before .before .encode-arguments .ensures .1)
 
 pub encode-phase-spec : {M : Type 1} → statement M
 encode-phase-spec =
     tie.close
     (tie.spec
     gathering-bytes-requires
-    slice-aggregate-put
-    put-requires
+    slice-aggregate-put-inside
+    put-inside-requires
     encode-arguments-requires
     data-bytes-requires
-    slice-aggregate-put-2
-    put-requires-2
+    slice-aggregate-put-inside-2
+    put-inside-requires-2
     upload-bytes-requires
-    slice-aggregate-put-3
-    put-requires-3
+    slice-aggregate-put-inside-3
+    put-inside-requires-3
     same-length
     returns)
