@@ -1,10 +1,12 @@
 //! The book of the third demand, and what else must hold of every byte.
 
+use crate::book_missing::missing_holds;
 use crate::files::Files;
 use crate::footprint::Footprint;
 use crate::glass::{Glass, WIDTH};
 use crate::machine::{BarEvent, Step, Subject};
-use crate::state::{Bar, State};
+use crate::mutants::{is, Mutant as M};
+use crate::state::{Bar, State, Text};
 
 /// One bar as the book knows it.
 #[derive(Clone, Copy, Debug)]
@@ -78,9 +80,15 @@ impl Book {
         self.bars.map(|entry| entry.is_some_and(|entry| entry.sure))
     }
 
+    /// The text settings as of the last byte.
+    pub fn text(&self) -> &Text {
+        &self.before.state.text
+    }
+
     /// One byte was consumed; an error says what does not hold.
     pub fn byte(&mut self, step: &Step, glass: &Glass, files: &Files, state: &State) -> Result<(), String> {
-        let touched = step.outcome.clone().unwrap_or(Footprint::Nothing);
+        let refused = if is(M::RefusedCharacterTouches) && step.outcome == Err(29) { Footprint::Whole } else { Footprint::Nothing };
+        let touched = step.outcome.clone().unwrap_or(refused);
         let changed = changed(&self.before.glass, glass);
         if !changed.is_empty() {
             let cover = touched.cover(state.height as usize);
@@ -92,6 +100,7 @@ impl Book {
             self.refusal_changes_nothing_else(step, files, state)?;
         }
         self.write_is_thrifty(step, &changed)?;
+        missing_holds(step, (&self.before.glass, &self.before.store, &self.before.state), (glass, &files.raw, state), files)?;
         self.enter(step, &touched, state.height as usize);
         if !changed.is_empty() || step.bar.is_some() {
             self.sure_bars_are_whole(glass)?;

@@ -4,6 +4,7 @@ use crate::calls_refused;
 use crate::commands::COMMANDS;
 use crate::coverage_faults::{reason, REASONS};
 use crate::coverage_heights::{height_reasons, HEIGHT_REASONS};
+use crate::coverage_missing;
 use crate::files::Files;
 use crate::glass::{on_glass, HEIGHTS};
 use crate::machine::{Step, Subject};
@@ -11,12 +12,15 @@ use crate::state::{Kind, State};
 use std::collections::BTreeMap;
 
 /// Refusals that can apply together, by command; 0 stands for a character.
-pub const PAIRS: [(u8, u8, u8); 18] = [
+pub const PAIRS: [(u8, u8, u8); 17] = [
     (103, 19, 20), (103, 19, 17), (103, 19, 18), (103, 20, 17), (103, 20, 18), (103, 17, 18),
     (106, 19, 17), (106, 19, 18), (106, 17, 18), (105, 19, 21), (107, 19, 21),
     (36, 25, 24), (94, 25, 24), (71, 22, 17), (71, 23, 17),
-    (0, 22, 29), (0, 23, 29), (0, 28, 29),
+    (0, 22, 29), (0, 23, 29),
 ];
+
+/// The number that stood for a character outside the font.
+pub const GIVEN_NO_MORE: u8 = 28;
 
 /// Every call with the answers it can give.
 pub const ANSWERS: [(&str, &[u8]); 4] =
@@ -26,7 +30,7 @@ pub const ANSWERS: [(&str, &[u8]); 4] =
 pub const REFUSALS: [(u8, &[u8]); 17] = [
     (33, &[20]), (36, &[24, 25]), (94, &[24, 25]), (49, &[22, 23]), (58, &[27]), (71, &[17, 22, 23]),
     (98, &[22, 23]), (100, &[18]), (103, &[17, 18, 19, 20]), (105, &[19, 21]), (106, &[17, 18, 19]),
-    (107, &[19, 21]), (114, &[18]), (120, &[18]), (173, &[20, 22]), (0, &[22, 23, 28, 29]), (1, &[26]),
+    (107, &[19, 21]), (114, &[18]), (120, &[18]), (173, &[20, 22]), (0, &[22, 23, 29]), (1, &[26]),
 ];
 
 #[derive(Clone, Debug, Default)]
@@ -113,7 +117,7 @@ impl Coverage {
         for (code, _) in COMMANDS {
             by_height.push(format!("command {code:3} done"));
         }
-        for refusal in 16..=29 {
+        for refusal in (16..=29).filter(|&refusal| refusal != GIVEN_NO_MORE) {
             by_height.push(format!("refusal {refusal}"));
         }
         for (code, refusals) in REFUSALS {
@@ -134,6 +138,7 @@ impl Coverage {
         by_height.extend(PAIRS.map(|(code, first, second)| pair_name(code, first, second)));
         by_height.extend(REASONS.map(|reason| format!("reason {reason}")));
         let mut wanted = calls_refused::wanted();
+        wanted.extend(coverage_missing::wanted());
         for rows in HEIGHTS {
             wanted.extend(by_height.iter().map(|what| format!("{rows} rows: {what}")));
         }

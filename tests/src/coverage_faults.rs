@@ -77,9 +77,14 @@ fn bitmap_fault(f: &[u8]) -> Option<&'static str> {
 
 /// The refused character left the text point where it was.
 fn no_room(character: u8, files: &Files, state: &State) -> &'static str {
+    let file = files.find(Kind::Font, state.text.font).and_then(|file| Font::open(&file.bytes, state.height));
+    let width = file.map_or(5, |font| if font.has(character) { font.width(character) } else { font.nominal });
+    no_room_of(width, state)
+}
+
+/// Why a box of this width found none.
+pub fn no_room_of(width: usize, state: &State) -> &'static str {
     let text = &state.text;
-    let file = files.find(Kind::Font, text.font).and_then(|file| Font::open(&file.bytes, state.height));
-    let width = file.map_or(5, |font| font.width(character));
     if text.x as usize + width <= 240 {
         "no room below"
     } else if !text.wrap {

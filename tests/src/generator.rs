@@ -149,11 +149,11 @@ impl Maker {
     }
 
     fn piece(&mut self) -> Vec<u8> {
-        let weights: [usize; 20] = match self.flavour {
-            Flavour::Mixed => [12, 10, 14, 5, 16, 5, 7, 3, 3, 2, 7, 3, 4, 5, 1, 1, 1, 1, 1, 4],
-            Flavour::Bars => [2, 8, 60, 5, 4, 0, 2, 0, 0, 0, 3, 0, 4, 2, 0, 1, 0, 0, 0, 1],
-            Flavour::Text => [2, 2, 3, 1, 50, 12, 10, 4, 1, 0, 10, 2, 1, 4, 1, 1, 0, 0, 1, 2],
-            Flavour::Files => [3, 2, 1, 1, 8, 1, 20, 8, 8, 8, 14, 16, 1, 3, 0, 1, 2, 3, 1, 1],
+        let weights: [usize; 21] = match self.flavour {
+            Flavour::Mixed => [12, 10, 14, 5, 16, 5, 7, 3, 3, 2, 7, 3, 4, 5, 1, 1, 1, 1, 1, 4, 6],
+            Flavour::Bars => [2, 8, 60, 5, 4, 0, 2, 0, 0, 0, 3, 0, 4, 2, 0, 1, 0, 0, 0, 1, 8],
+            Flavour::Text => [2, 2, 3, 1, 50, 12, 10, 4, 1, 0, 10, 2, 1, 4, 1, 1, 0, 0, 1, 2, 16],
+            Flavour::Files => [3, 2, 1, 1, 8, 1, 20, 8, 8, 8, 14, 16, 1, 3, 0, 1, 2, 3, 1, 1, 4],
         };
         let mut left = self.rng.below(weights.iter().sum());
         let mut kind = 0;
@@ -181,7 +181,8 @@ impl Maker {
             16 => self.fill_directory(),
             17 => self.fill_area(),
             18 => vec![254, 33, 89, 33],
-            _ => self.settings(),
+            19 => self.settings(),
+            _ => self.missing(),
         }
     }
 

@@ -12,14 +12,19 @@ pub fn good_font(rng: &mut Prng, rows: u8) -> Vec<u8> {
         3 => rng.between(rows / 2, rows),
         _ => rng.between(1, 12),
     };
-    let count = if height > 64 { rng.between(1, 2) } else { rng.between(1, 5) };
-    let first = match rng.below(4) {
+    let mut count = if height > 64 { rng.between(1, 2) } else { rng.between(1, 5) };
+    let first = match rng.below(6) {
         0 => 0,
         1 => 256 - count,
+        2 => {
+            // about 8, 10 and 13, with one of them or more
+            count += rng.below(4);
+            rng.between(6, 13)
+        }
         _ => rng.between(40, 90),
     };
     let widest = if height > 12 { 6 } else { 14 };
-    let mut header = vec![rng.pick(&[1, 5, 8, 100, 240]) as u8, height as u8, first as u8, (first + count - 1) as u8];
+    let mut header = vec![rng.pick(&[1, 3, 5, 8, 20, 100, 240]) as u8, height as u8, first as u8, (first + count - 1) as u8];
     let gap = if rng.percent(20) { rng.below(4) } else { 0 };
     let mut offset = 4 + 3 * count + gap;
     let mut glyphs = vec![rng.byte(); gap];

@@ -2,9 +2,10 @@
 
 use crate::case_file::upload;
 use crate::files::Files;
-use crate::font::{Bitmap, Font};
+use crate::font::Bitmap;
 use crate::generator::Maker;
 use crate::generator_files::{bad_bitmap, bad_font, good_bitmap, good_font};
+use crate::measures::Measures;
 use crate::state::Kind;
 
 impl Maker {
@@ -79,10 +80,8 @@ impl Maker {
     /// A point from which the next line just reaches the scroll row, or just passes it;
     /// or a column and row whose point is just on the glass, or just off it.
     fn place_at_an_edge(&mut self) -> Vec<u8> {
-        let files = self.files();
         let text = self.board.state.text.clone();
-        let file = files.find(Kind::Font, text.font).and_then(|file| Font::open(&file.bytes, self.board.state.height));
-        let (nominal, height) = file.map_or((5, 7), |font| (font.nominal, font.height));
+        let (nominal, height) = self.measures().map_or((5, 7), |font| (font.nominal, font.height));
         let line = height + text.line_space as usize;
         if self.rng.percent(50) {
             let y = (text.scroll_row as usize + self.rng.below(3)).saturating_sub(line + height + 1);
@@ -94,14 +93,13 @@ impl Maker {
         vec![254, 71, (last_column + 1 + more).min(255) as u8, (last_row + 1 + below).min(255) as u8]
     }
 
+    /// Of the current font; `None` where it is not there, or malformed.
+    pub fn measures(&self) -> Option<Measures> {
+        Measures::of_current(&self.files(), &self.board.state)
+    }
+
     fn character_range(&self) -> (u8, u8) {
-        let number = self.board.state.text.font;
-        let files = self.files();
-        let file = files.find(Kind::Font, number);
-        match file.and_then(|file| Font::open(&file.bytes, self.board.state.height)) {
-            Some(font) => (font.first, font.last),
-            None => (32, 126),
-        }
+        self.measures().map_or((32, 126), |font| (font.first, font.last))
     }
 
     fn kind_code(&mut self) -> (Kind, u8) {
@@ -262,7 +260,7 @@ impl Maker {
     }
 
     /// A malformed font can be current when the record says so; a good one cannot turn bad,
-    /// so here only place, range and room compete.
+    /// so here there is only no room, for boxes and letters alike.
     fn text_refusals(&mut self) -> Vec<u8> {
         let last = self.height() as u8 - 1;
         let mut bytes = vec![254, 68, 254, 121, self.rng.pick(&[238, 240, 255]), self.rng.pick(&[0, last, 255])];

@@ -4,14 +4,15 @@ use crate::font::Font;
 use crate::footprint::Footprint;
 use crate::glass::{Glass, WIDTH};
 use crate::machine::Machine;
+use crate::missing::{lacks, IGNORED};
 use crate::mutants::{is, Mutant as M};
 use crate::state::{Kind, Text};
 
 /// Where a character would go, and whether the glass moves up first.
-struct Place {
-    x: usize,
-    y: usize,
-    rows_up: usize,
+pub struct Place {
+    pub x: usize,
+    pub y: usize,
+    pub rows_up: usize,
 }
 
 impl Machine<'_> {
@@ -83,27 +84,39 @@ impl Machine<'_> {
         Ok(Footprint::Nothing)
     }
 
-    /// A byte that belongs to nothing else: 22, 23, 28, 29.
+    /// A byte that belongs to nothing else: 22, 23, 29.
     pub fn character(&mut self, character: u8) -> Result<Footprint, u8> {
-        let bytes = self.font_bytes(self.state.text.font)?;
+        let bytes = match self.font_bytes(self.state.text.font) {
+            Err(22) if is(M::IgnoredBefore22) && IGNORED.contains(&character) => return Ok(Footprint::Nothing),
+            Err(23) if is(M::IgnoredBefore23) && IGNORED.contains(&character) => return Ok(Footprint::Nothing),
+            found => found?,
+        };
         let font = Font::open(&bytes, self.tallest_font()).ok_or(23)?;
-        let rows = if is(M::BoxMayNotPassRow64) { 64 } else { self.state.height as usize };
-        if !font.has(character) {
-            if is(M::NoRoomBeforeOutsideFont) && find_place(&self.state.text, rows, font.nominal, font.height).is_none() {
-                return Err(29);
-            }
-            return Err(28);
+        if lacks(&font, character) {
+            return self.missing(character, &font);
         }
         let width = font.width(character);
         let space = self.state.text.char_space as usize;
-        let Some(place) = find_place(&self.state.text, rows, width, font.height) else {
+        let place = self.make_room(width, font.height)?;
+        paint(self.glass, &font, character, &place, self.state.black);
+        let grown = if is(M::AdvanceByNominalWidth) { font.nominal } else { width };
+        let gap = if is(M::AdvanceWithoutSpace) { 0 } else { space };
+        self.state.text.x = (place.x + grown + gap).min(495) as u16;
+        self.state.text.y = place.y as u16;
+        Ok(self.touched(&place, width, font.height))
+    }
+
+    /// Finds the place of a box and scrolls if it must; 29, and nothing moved, if there is no room.
+    pub fn make_room(&mut self, width: usize, height: usize) -> Result<Place, u8> {
+        let rows = if is(M::BoxMayNotPassRow64) { 64 } else { self.state.height as usize };
+        let Some(place) = find_place(&self.state.text, rows, width, height) else {
             if is(M::ScrollsBeforeFindingRoom) {
-                if let Some((_, _, rows)) = wrapped(&self.state.text, width, font.height) {
+                if let Some((_, _, rows)) = self.after_wrapping(width, height) {
                     self.glass.scroll_up(rows);
                 }
             }
             if is(M::RefusedCharacterMovesPoint) {
-                if let Some((x, y, _)) = wrapped(&self.state.text, width, font.height) {
+                if let Some((x, y, _)) = self.after_wrapping(width, height) {
                     (self.state.text.x, self.state.text.y) = (x as u16, (y as u16).min(255));
                 }
             }
@@ -113,20 +126,19 @@ impl Machine<'_> {
             self.glass.scroll_up(place.rows_up);
             self.scrolled = true;
         }
-        paint(self.glass, &font, character, &place, self.state.black);
-        let grown = if is(M::AdvanceByNominalWidth) { font.nominal } else { width };
-        let gap = if is(M::AdvanceWithoutSpace) { 0 } else { space };
-        self.state.text.x = (place.x + grown + gap).min(495) as u16;
-        self.state.text.y = place.y as u16;
-        if self.scrolled {
-            return Ok(Footprint::Whole);
+        Ok(place)
+    }
+
+    pub fn after_wrapping(&self, width: usize, height: usize) -> Option<(usize, usize, usize)> {
+        wrapped(&self.state.text, width, height)
+    }
+
+    /// The box painted at a place, or the whole glass if it scrolled.
+    pub fn touched(&self, place: &Place, width: usize, height: usize) -> Footprint {
+        if self.scrolled && !is(M::ScrollTouchesOnlyTheBox) {
+            return Footprint::Whole;
         }
-        Ok(Footprint::Rectangle {
-            x1: place.x,
-            y1: place.y,
-            x2: place.x + width - 1,
-            y2: place.y + font.height - 1,
-        })
+        Footprint::Rectangle { x1: place.x, y1: place.y, x2: place.x + width - 1, y2: place.y + height - 1 }
     }
 }
 

@@ -226,7 +226,7 @@ fn take_alone(framebuffer: &mut [u8], store: &[u8], port: Port, height: u8, byte
     if byte == PREFIX {
         return done(in_phase(port, Phase::Prefix));
     }
-    text::draw_character(framebuffer, store, port, height, byte)
+    characters::draw_character(framebuffer, store, port, height, byte)
 }
 
 // A byte of the stream.

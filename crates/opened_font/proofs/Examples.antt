@@ -4,7 +4,7 @@ use mathlib.Core.Path.{_≡_, refl}
 use Rattle.fonts.specs.Fonts.{offsetAt, widthAt}
 use Rattle.fonts.proofs.Examples.{small}
 use Rattle.opened_font.specs.declared.Glyph.the-variants.{At, Missing}
-use Rattle.opened_font.specs.Glyphs.{glyphIn, glyphOf, glyphNumber}
+use Rattle.opened_font.specs.Glyphs.{glyphIn, glyphOf}
 
 pub small-last : glyphOf small 66 ≡ At 12 4 5
 unfolding glyphOf glyphIn offsetAt widthAt
@@ -17,8 +17,3 @@ small-before = refl
 pub small-behind : glyphOf small 67 ≡ Missing
 unfolding glyphOf glyphIn
 small-behind = refl
-
--- the numbers of the two answers: none, and 28
-pub small-numbers : (glyphNumber (glyphOf small 66) ≡ 0) × (glyphNumber (glyphOf small 67) ≡ 28)
-unfolding glyphOf glyphIn
-small-numbers = (refl, refl)

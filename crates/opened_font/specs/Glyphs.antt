@@ -5,7 +5,6 @@ use mathlib.Core.Bool.{cond, _&&_}
 use Prim.Native.Nat.{ℕ, _-_}
 use lib.Dec.{leb}
 use denote.Ref.{RefT, now}
-use Rattle.refusals.specs.Refusals.{noGlyph, accepted}
 use Rattle.fonts.specs.Fonts.{heightOf, firstOf, lastOf, offsetAt, widthAt}
 use Rattle.opened_font.specs.declared.Font.{Font}
 use Rattle.opened_font.specs.declared.Glyph.{Glyph}
@@ -22,8 +21,3 @@ glyphIn s h f c = cond (leb f c && leb c (lastOf s)) (At (offsetAt s (c - f)) (w
 -- and in a font's file
 unfoldable pub glyphOf : List ℕ → ℕ → Glyph
 glyphOf s c = glyphIn s (heightOf s) (firstOf s) c
-
--- the refusal's number
-abbrev pub glyphNumber : Glyph → ℕ
-glyphNumber (At offset width height) = accepted
-glyphNumber Missing = noGlyph

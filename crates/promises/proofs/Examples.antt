@@ -30,7 +30,7 @@ use Rattle.record.specs.Reading.{decodeOf, portOf, phaseOf}
 use Rattle.record.specs.Writing.{encodeOf, portBytes, phaseBytes, panelBytes, manyBytes}
 use Rattle.rules.specs.World.{World}
 use Rattle.rules.specs.Fonts.{openFont, openedAt}
-use Rattle.rules.specs.Text.{fontChosen, chooseFont, wrapped, fitted, glyphAt, glyphOn, characterIn, character}
+use Rattle.rules.specs.Text.{fontChosen, chooseFont, wrapped, fitted, drawnBy, drawnAt, drawnOn, characterIn, character}
 use Rattle.rules.specs.Drawing.{drawPixel, drawLine}
 use Rattle.rules.specs.Bars.{setUpBar, writeBar}
 use Rattle.rules.specs.Pictures.{bitmapIn, bitmapAt, showBitmap, beginInline, inlineData}
@@ -168,7 +168,7 @@ bar-from-right h e =
     (holds tallHeight tall barFromRight (record { answered = refl; consumed = refl; shows = exactly tall _ (layer (stripe (barOf 3 0 0 9 1 0) 0 3) (plain true) (layer (rectangle 0 0 9 1) (plain false) white-shows)) refl; has = tt; replies = refl; refused = refl; reason = refl; flows = refl })) h e
 
 letter-t : (h : ℕ) → isHeight h ≡ true → Holds h letterT
-unfolding run said taken step replies after byPhase alone code argument obey commandOf decodeOf portOf phaseOf encodeOf portBytes phaseBytes panelBytes manyBytes within beginUpload uploadData appended recordBytes directory.entriesFrom directory.readFrom directory.stepAt directory.entryAt directory.lengthOf directory.hasFile directory.findIn directory.bytesIn directory.sizesIn fontChosen chooseFont openFont openedAt isFont areEntries isEntry offsetAt widthAt between packedBytes character characterIn glyphOn glyphAt glyphOf glyphIn wrapped fitted bitOf packedBit packed
+unfolding run said taken step replies after byPhase alone code argument obey commandOf decodeOf portOf phaseOf encodeOf portBytes phaseBytes panelBytes manyBytes within beginUpload uploadData appended recordBytes directory.entriesFrom directory.readFrom directory.stepAt directory.entryAt directory.lengthOf directory.hasFile directory.findIn directory.bytesIn directory.sizesIn fontChosen chooseFont openFont openedAt isFont areEntries isEntry offsetAt widthAt between packedBytes character characterIn drawnBy drawnOn drawnAt glyphOf glyphIn wrapped fitted bitOf packedBit packed
 letter-t h e =
     at-heights (λ (n : ℕ). Holds n letterT)
     (holds lowHeight low letterT (record { answered = refl; consumed = refl; shows = exactly low _ (layer (box 0 3 0 5) (packed 0 0 3 (233 ∷ 36 ∷ [])) white-shows) refl; has = tt; replies = refl; refused = refl; reason = refl; flows = refl }))

@@ -1,6 +1,7 @@
 -- The numbers of the refusals: why a command or a character was not obeyed. Each stands here and nowhere else.
 -- Assumes nothing.
-use Prim.Native.Nat.{ℕ}
+use mathlib.Core.Path.{_≡_}
+use Prim.Native.Nat.{ℕ, _≤_}
 
 -- unknown code
 abbrev pub unknownCommand : ℕ
@@ -45,13 +46,17 @@ uploadAborted = 26
 abbrev pub badWatermarks : ℕ
 badWatermarks = 27
 
--- character outside the font
+-- character outside the font: no longer given, since it shows as a box
 abbrev pub noGlyph : ℕ
 noGlyph = 28
 
 -- no room for the character
 abbrev pub glyphDoesNotFit : ℕ
 glyphDoesNotFit = 29
+
+-- the numbers that a refusal can have: 16 to 29, but for 28
+abbrev pub Given : ℕ → Type 0
+Given n = (unknownCommand ≤ n) × (n ≤ glyphDoesNotFit) × (n ≡ noGlyph → ⊥)
 
 -- an answer that is no refusal
 abbrev pub accepted : ℕ

@@ -8,12 +8,11 @@ use native.Mathlib.Omega.{arith}
 use lib.Dec.{eqb, leb, ltb}
 use lib.ListN.{length, take, drop, length-set}
 use borrow.Author.Tests.{leb-false}
-use Rattle.pixels.specs.Framebuffer.{plain, width}
+use Rattle.pixels.specs.Framebuffer.{Picture, plain, put, width}
 use Rattle.pixels.specs.Regions.{point, box, rectangle, everywhere}
 use Rattle.pixels.specs.Footprints.{SameOutside}
 use Rattle.pixels.proofs.Tests.{by-test}
 use Rattle.pixels.proofs.Footprint.{outside-then, outside-put, outside-none, outside-all}
-use Rattle.bitmap.specs.Bitmaps.{packedBox}
 use Rattle.bitmap.proofs.Footprint.{packed-footprint, inline-footprint}
 use Rattle.scroll.specs.Scroll.{scrolled}
 use Rattle.scroll.proofs.Footprint.{clear-footprint, scroll-footprint}
@@ -24,20 +23,18 @@ use Rattle.bar_ledger.specs.Ledger.{quiet, setUp, wrote, painted}
 use Rattle.directory.specs.declared.Found.{Found}
 use Rattle.directory.specs.declared.Found.the-variants.{At, Nothing}
 use Rattle.directory.specs.Directory.{findOf, entries, hasFile}
-use Rattle.opened_font.specs.declared.Glyph.{Glyph}
-use Rattle.opened_font.specs.declared.Glyph.the-variants
 use Rattle.opened_font.specs.Glyphs.{glyphOf}
 use Rattle.fonts.specs.Bitmaps.{isBitmap, bitmapWidth, bitmapHeight}
 use Rattle.state.specs.State.{barOf, barAt, stripAt, strip}
 use Rattle.rules.specs.World.{World, height, port, panel}
 use Rattle.rules.specs.Fonts.{Opened, opened, shut, openFont}
-use Rattle.rules.specs.Text.{placeX, placeY, Place, place, nowhere, wrapped, fitted, glyphAt, glyphOn, characterIn, character, fontChosen, chooseFont, placeIn, setPlace}
+use Rattle.rules.specs.Text.{placeX, placeY, Place, place, nowhere, wrapped, fitted, Ink, inked, Drawn, drawn, ignored, drawnBy, drawnAt, drawnOn, characterIn, character, fontChosen, chooseFont, placeIn, setPlace}
 use Rattle.rules.specs.Drawing.{ordered, clear, drawPixel, drawLine, drawFrame, fillRectangle}
 use Rattle.rules.specs.Bars.{inBounds, apart, setUpBar, writeBar, setUpStrip, shiftStrip}
 use Rattle.rules.specs.Pictures.{bitmapIn, bitmapAt, showBitmap, beginInline, inlineData}
 use Rattle.rules.specs.Files.{inUse, lacksSpace, beginUpload, confirmed, uploadData, unchosen, deleteFile, purge}
 use Rattle.rules.specs.Settings.{flowOn, setSerial}
-use Rattle.rules.specs.Events.{placeEvent, glyphEvent, fontEvent, characterEvent, bitmapEvent}
+use Rattle.rules.specs.Events.{placeEvent, drawnEvent, fontEvent, characterEvent, bitmapEvent}
 use Rattle.rules.proofs.Obeying.{Fair, Obeying, passes, fair-painted, fair-quiet, fair-set-up, fair-wrote}
 
 -- ---- drawing
@@ -133,28 +130,28 @@ unfolding setPlace
 place-obeys w c r = placing w c r (openFont (height w) (w .store) (port w .text .font))
 
 -- the box, or everything where the framebuffer moves up first
-box-painted : (u : ℕ) (t : Bool) (g : List ℕ) (x y v f : ℕ) (bits : List ℕ) → eqb u 0 ≡ t
-    → SameOutside (cond t (box x (x + v) y (y + f)) everywhere) g (packedBox x y v f bits (cond t g (scrolled u g)))
-box-painted u true g x y v f bits e = packed-footprint x y v f bits g
-box-painted u false g x y v f bits e =
-    outside-then everywhere g (scrolled u g) _ (scroll-footprint u g) (outside-all (scrolled u g) _ (packed-footprint x y v f bits (scrolled u g) .long))
+box-painted : (u : ℕ) (t : Bool) (g : List ℕ) (x y v f : ℕ) (p : Picture) → eqb u 0 ≡ t
+    → SameOutside (cond t (box x (x + v) y (y + f)) everywhere) g (put (box x (x + v) y (y + f)) p (cond t g (scrolled u g)))
+box-painted u true g x y v f p e = outside-put (box x (x + v) y (y + f)) p g
+box-painted u false g x y v f p e =
+    outside-then everywhere g (scrolled u g) _ (scroll-footprint u g) (outside-all (scrolled u g) _ (outside-put (box x (x + v) y (y + f)) p (scrolled u g) .long))
 
-glyph-at : (w : World) (f : List ℕ) (o v t : ℕ) (p : Place) → Obeying w (placeEvent v t p) (glyphAt w f o v t p)
-unfolding glyphAt
-glyph-at w f o v t nowhere = tt
-glyph-at w f o v t (place x y up) =
+drawn-at : (w : World) (i : Ink) (v t : ℕ) (p : Place) → Obeying w (placeEvent v t p) (drawnAt w i v t p)
+unfolding drawnAt
+drawn-at w i v t nowhere = tt
+drawn-at w i v t (place x y up) =
     fair-painted w _ refl refl refl (cond (eqb up 0) (box x (x + v) y (y + t)) everywhere)
-    (box-painted up (eqb up 0) (w .framebuffer) x y v t (drop o f) refl)
+    (box-painted up (eqb up 0) (w .framebuffer) x y v t (inked i x y v) refl)
 
-glyph-on : (w : World) (f : List ℕ) (g : Glyph) → Obeying w (glyphEvent w f g) (glyphOn w f g)
-unfolding glyphOn
-glyph-on w f the-variants.Missing = tt
-glyph-on w f (the-variants.At o v t) = glyph-at w f o v t (fitted (height w) v t (wrapped (port w .text) v t))
+drawn-on : (w : World) (d : Drawn) → Obeying w (drawnEvent w d) (drawnOn w d)
+unfolding drawnOn
+drawn-on w ignored = fair-quiet w w refl refl refl refl
+drawn-on w (drawn i v t) = drawn-at w i v t (fitted (height w) v t (wrapped (port w .text) v t))
 
 in-font : (w : World) (c : ℕ) (o : Opened) → Obeying w (fontEvent w c o) (characterIn w c o)
 unfolding characterIn
 in-font w c (shut r) = tt
-in-font w c (opened f) = glyph-on w f (glyphOf f c)
+in-font w c (opened f) = drawn-on w (drawnBy f c (glyphOf f c))
 
 pub character-obeys : (w : World) (c : ℕ) → Obeying w (characterEvent w c) (character w c)
 unfolding character characterEvent

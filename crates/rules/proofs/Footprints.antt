@@ -23,7 +23,7 @@ use Rattle.state.specs.State.{startState}
 use Rattle.state.specs.Commands.{commandOf}
 use Rattle.rules.specs.World.{World, world}
 use Rattle.rules.specs.Fonts.{openFont}
-use Rattle.rules.specs.Text.{wrapped, fitted, glyphAt, glyphOn, characterIn, character}
+use Rattle.rules.specs.Text.{wrapped, fitted, missing, drawnBy, drawnAt, drawnOn, characterIn, character}
 use Rattle.rules.specs.Drawing.{clear, setColour, drawPixel, drawLine, drawFrame, fillRectangle}
 use Rattle.rules.specs.Bars.{setUpBar, writeBar, setUpStrip, shiftStrip}
 use Rattle.rules.specs.Pictures.{bitmapIn, bitmapAt, showBitmap, beginInline, inlineData}
@@ -133,5 +133,14 @@ pub characters : (known (254 ∷ 121 ∷ 20 ∷ 0 ∷ 65 ∷ []) ≡ true)
     × (known (254 ∷ 121 ∷ 6 ∷ 1 ∷ 65 ∷ []) ≡ false)
     × (known (254 ∷ 121 ∷ 236 ∷ 0 ∷ 65 ∷ []) ≡ false)
     × (known (254 ∷ 121 ∷ 20 ∷ 2 ∷ 65 ∷ []) ≡ true)
-unfolding ledgerAlong step event meant meaning byPhase alone code argument obey commandOf after refuse recorded touched written setUpBar writeBar repaint picture bytesOf within some touches lengthOf heldTo writeOf characterEvent character characterIn glyphOn glyphAt openFont glyphOf glyphIn table offsetAt widthAt wrapped fitted
+unfolding ledgerAlong step event meant meaning byPhase alone code argument obey commandOf after refuse recorded touched written setUpBar writeBar repaint picture bytesOf within some touches lengthOf heldTo writeOf characterEvent character characterIn drawnBy drawnOn drawnAt openFont glyphOf glyphIn table offsetAt widthAt wrapped fitted
 characters = (refl, refl, refl, refl)
+
+-- a character that the font lacks: its box beside it and on it; one that scrolls; one for which there is no room; one that is ignored, on it
+pub boxes : (known (254 ∷ 121 ∷ 20 ∷ 0 ∷ 200 ∷ []) ≡ true)
+    × (known (254 ∷ 121 ∷ 6 ∷ 1 ∷ 200 ∷ []) ≡ false)
+    × (known (254 ∷ 121 ∷ 236 ∷ 0 ∷ 200 ∷ []) ≡ false)
+    × (known (254 ∷ 121 ∷ 20 ∷ 2 ∷ 200 ∷ []) ≡ true)
+    × (known (254 ∷ 121 ∷ 12 ∷ 1 ∷ 13 ∷ []) ≡ true)
+unfolding ledgerAlong step event meant meaning byPhase alone code argument obey commandOf after refuse recorded touched written setUpBar writeBar repaint picture bytesOf within some touches lengthOf heldTo writeOf characterEvent character characterIn missing drawnBy drawnOn drawnAt openFont glyphOf glyphIn table wrapped fitted
+boxes = (refl, refl, refl, refl, refl)

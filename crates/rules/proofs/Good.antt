@@ -8,6 +8,7 @@ use native.Mathlib.Omega.{arith}
 use lib.Dec.{leb}
 use lib.ListN.{length, getD}
 use borrow.Author.Tests.{leb-true, ltb-true, le-leb, lt-ltb}
+use Rattle.refusals.specs.Refusals.{Given}
 use Rattle.canvas.specs.Sizes.{isHeight}
 use Rattle.pixels.proofs.Tests.{by-test}
 use Rattle.queue.specs.declared.Flow.{Flow}
@@ -238,11 +239,11 @@ module _ {n m : ℕ} {w : World} (p : Parts n m w) where
 
 -- ---- outcomes
 
--- what is done leaves a good world, and a refusal's number is a byte
+-- what is done leaves a good world, and a refusal's number is one that is given
 abbrev pub Leaves : ℕ → ℕ → Outcome → Type 0
 Leaves n m (done v r) = Parts n m v
-Leaves n m (refused k r) = k < 256
+Leaves n m (refused k r) = Given k
 
 -- a reason to refuse stands before
-pub passes : (n m : ℕ) (bad : Bool) (k : ℕ) (o : Outcome) → k < 256 → (bad ≡ false → Leaves n m o) → Leaves n m (refuseIf bad k o)
+pub passes : (n m : ℕ) (bad : Bool) (k : ℕ) (o : Outcome) → Given k → (bad ≡ false → Leaves n m o) → Leaves n m (refuseIf bad k o)
 passes n m bad k o h f = by-test (Leaves n m) bad (refused k []) o (λ _. h) f

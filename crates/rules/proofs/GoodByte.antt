@@ -155,11 +155,14 @@ module _ {n m : ℕ} {w : World} (p : Parts n m w) where
   after-good : (o : Outcome) → Leaves n m o → Parts n m (after w o)
   unfolding after refuse
   after-good (done v r) h = h
-  after-good (refused k r) h = put-refusals out (record { count = omega arith; last = h })
+  after-good (refused k r) h = put-refusals out (record { count = omega arith; last = omega (arith, h) })
+
+  pub byte-leaves : (b : ℕ) → b < 256 → Leaves n m (outcome w b)
+  byte-leaves b h = phase-good (port w .line .phase) b (p .port-good .phase) h
 
   pub parts-step : (b : ℕ) → b < 256 → Parts n m (step w b)
   unfolding step
-  parts-step b h = after-good (outcome w b) (phase-good (port w .line .phase) b (p .port-good .phase) h)
+  parts-step b h = after-good (outcome w b) (byte-leaves b h)
 
 -- THE THEOREM, for one byte and for every stream of bytes
 pub good-step : (w : World) (b : ℕ) → Good w → b < 256 → Good (step w b)

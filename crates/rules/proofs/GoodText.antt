@@ -7,6 +7,7 @@ use native.Mathlib.Omega.{arith}
 use lib.Dec.{eqb, leb}
 use lib.ListN.{take, drop}
 use borrow.Author.Tests.{leb-true, leb-false}
+use Rattle.refusals.specs.Refusals.{Given}
 use Rattle.pixels.specs.Framebuffer.{width}
 use Rattle.pixels.proofs.Tests.{by-test, or-one, or-two}
 use Rattle.pixels.proofs.Painting.{bytes-repaint}
@@ -14,15 +15,13 @@ use Rattle.directory.specs.declared.Found.{Found}
 use Rattle.directory.specs.declared.Found.the-variants.{At, Nothing}
 use Rattle.directory.specs.Directory.{findOf}
 use Rattle.fonts.specs.Fonts.{isFont}
-use Rattle.opened_font.specs.declared.Glyph.{Glyph}
-use Rattle.opened_font.specs.declared.Glyph.the-variants
 use Rattle.opened_font.specs.Glyphs.{glyphOf}
 use Rattle.file_laws.proofs.Written.{and-both}
 use Rattle.queue.specs.Record.{Bytes}
 use Rattle.state.specs.declared.Text.{Text}
 use Rattle.rules.specs.World.{World, height, port}
 use Rattle.rules.specs.Fonts.{Opened, opened, shut, openedAt, openFont}
-use Rattle.rules.specs.Text.{atPoint, home, withFont, withWrap, withScroll, withMetrics, placeX, placeY, Place, place, nowhere, wrapped, fitted, glyphAt, glyphOn, characterIn, character, fontChosen, chooseFont, placeIn, setPlace}
+use Rattle.rules.specs.Text.{atPoint, home, withFont, withWrap, withScroll, withMetrics, placeX, placeY, Place, place, nowhere, wrapped, fitted, Ink, Drawn, drawn, ignored, drawnBy, drawnAt, drawnOn, characterIn, character, fontChosen, chooseFont, placeIn, setPlace}
 use Rattle.rules.proofs.Good.{TextGood, Parts, put-framebuffer, put-text, Leaves, passes}
 
 -- ---- the text point and its settings
@@ -45,11 +44,11 @@ scroll-good g b = omega arith
 pub metrics-good : {t : Text} → TextGood t → (a : List ℕ) → Bytes a → TextGood (withMetrics t a)
 metrics-good g a b = omega (arith, b 0, b 1, b 2, b 3, b 4)
 
--- ---- fonts: a refusal's number is a byte
+-- ---- fonts: a refusal's number is one that is given
 
 abbrev Numbered : Opened → Type 0
 Numbered (opened f) = Unit {0}
-Numbered (shut r) = r < 256
+Numbered (shut r) = Given r
 
 found-numbered : (h : ℕ) (t : Found) (s : List ℕ) → Numbered (openedAt h t s)
 unfolding openedAt
@@ -101,22 +100,22 @@ module _ {n m : ℕ} {w : World} (p : Parts n m w) where
   unfolding setPlace
   place-good c r = placing c r (openFont (height w) (w .store) (port w .text .font)) (font-numbered (height w) (w .store) (port w .text .font))
 
-  glyph-at : (f : List ℕ) (o v t : ℕ) (q : Place) → Placed (height w) v q → Leaves n m (glyphAt w f o v t q)
-  unfolding glyphAt
-  glyph-at f o v t nowhere h = omega arith
-  glyph-at f o v t (place x y up) h =
+  drawn-at : (i : Ink) (v t : ℕ) (q : Place) → Placed (height w) v q → Leaves n m (drawnAt w i v t q)
+  unfolding drawnAt
+  drawn-at i v t nowhere h = omega arith
+  drawn-at i v t (place x y up) h =
       put-text (put-framebuffer p (bytes-repaint _ _))
       (at-point (p .port-good .text) (x + v + port w .text .«char_space») y (omega (arith, h .0, p .port-good .text .fits .char-space)) (omega (arith, h .1, p .height)))
 
-  glyph-on : (f : List ℕ) (g : Glyph) → Leaves n m (glyphOn w f g)
-  unfolding glyphOn
-  glyph-on f the-variants.Missing = omega arith
-  glyph-on f (the-variants.At o v t) = glyph-at f o v t (fitted (height w) v t (wrapped (port w .text) v t)) (room-placed (height w) v t (wrapped (port w .text) v t))
+  drawn-on : (d : Drawn) → Leaves n m (drawnOn w d)
+  unfolding drawnOn
+  drawn-on ignored = p
+  drawn-on (drawn i v t) = drawn-at i v t (fitted (height w) v t (wrapped (port w .text) v t)) (room-placed (height w) v t (wrapped (port w .text) v t))
 
   in-font : (c : ℕ) (o : Opened) → Numbered o → Leaves n m (characterIn w c o)
   unfolding characterIn
   in-font c (shut r) k = k
-  in-font c (opened f) k = glyph-on f (glyphOf f c)
+  in-font c (opened f) k = drawn-on (drawnBy f c (glyphOf f c))
 
   pub character-good : (c : ℕ) → Leaves n m (character w c)
   unfolding character

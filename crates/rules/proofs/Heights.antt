@@ -18,7 +18,7 @@ use Rattle.builtin_font.specs.Table.{table}
 use Rattle.state.specs.declared.Text.{Text}
 use Rattle.state.specs.State.{startState, barAt, stripAt}
 use Rattle.rules.specs.World.{World, world, port, panel, putText, Outcome, refused}
-use Rattle.rules.specs.Text.{withMetrics, withFont, atPoint, wrapped, fitted, glyphAt, glyphOn, characterIn, character, fontChosen, chooseFont, placeIn, setPlace}
+use Rattle.rules.specs.Text.{withMetrics, withFont, atPoint, wrapped, fitted, drawnBy, drawnAt, drawnOn, characterIn, character, fontChosen, chooseFont, placeIn, setPlace}
 use Rattle.rules.specs.Fonts.{openFont, openedAt}
 use Rattle.rules.specs.Drawing.{drawPixel}
 use Rattle.rules.specs.Bars.{setUpBar, setUpStrip}
@@ -73,7 +73,7 @@ at h y = putText (fresh h) (atPoint (textOf (fresh h)) 0 y)
 
 pub boxes : (character (at 64 58) 65 ≡ refused 29 []) × (textOf (after (at 64 57) (character (at 64 57) 65)) .x ≡ 5)
     × (character (at 128 122) 65 ≡ refused 29 []) × (textOf (after (at 128 121) (character (at 128 121) 65)) .x ≡ 5)
-unfolding character characterIn glyphOn glyphAt glyphOf glyphIn wrapped fitted openFont after table offsetAt widthAt
+unfolding character characterIn drawnBy drawnOn drawnAt glyphOf glyphIn wrapped fitted openFont after table offsetAt widthAt
 boxes = (refl, refl, refl, refl)
 
 -- at the last column: to the next line, which ends before the scroll row, or the framebuffer moves up
@@ -81,7 +81,7 @@ abbrev wrapping : ℕ → ℕ → Text
 wrapping h y = textOf (after (putText (fresh h) (atPoint (textOf (fresh h)) 236 y)) (character (putText (fresh h) (atPoint (textOf (fresh h)) 236 y)) 65))
 
 pub wraps : (wrapping 64 49 .y ≡ 57) × (wrapping 64 50 .y ≡ 50) × (wrapping 128 50 .y ≡ 58) × (wrapping 128 113 .y ≡ 121) × (wrapping 128 114 .y ≡ 114)
-unfolding character characterIn glyphOn glyphAt glyphOf glyphIn wrapped fitted openFont after table offsetAt widthAt
+unfolding character characterIn drawnBy drawnOn drawnAt glyphOf glyphIn wrapped fitted openFont after table offsetAt widthAt
 wraps = (refl, refl, refl, refl, refl)
 
 pub lines : (setPlace (fresh 64) 1 9 ≡ refused 17 []) × (textOf (then 64 (λ w. setPlace w 1 8)) .y ≡ 56)
@@ -110,5 +110,5 @@ current rows = putText (holding rows 65 16) (withFont (textOf (holding rows 65 1
 
 pub font-used : (character (current 64) 65 ≡ refused 23 []) × (setPlace (current 64) 1 1 ≡ refused 23 []) × (textOf (after (current 128) (character (current 128) 65)) .x ≡ 1)
     × (textOf (after (current 128) (setPlace (current 128) 1 1)) .y ≡ 0)
-unfolding character characterIn glyphOn glyphAt glyphOf glyphIn wrapped fitted setPlace placeIn openFont openedAt isFont areEntries isEntry offsetAt widthAt between packedBytes after readFrom entriesFrom entryAt stepAt directory.lengthOf sizesIn findIn
+unfolding character characterIn drawnBy drawnOn drawnAt glyphOf glyphIn wrapped fitted setPlace placeIn openFont openedAt isFont areEntries isEntry offsetAt widthAt between packedBytes after readFrom entriesFrom entryAt stepAt directory.lengthOf sizesIn findIn
 font-used = (refl, refl, refl, refl)

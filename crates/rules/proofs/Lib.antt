@@ -1,5 +1,7 @@
 pub mod Examples
 pub mod Heights
+pub mod Missing
+pub mod MissingExamples
 pub mod Footprints
 pub mod Refusals
 pub mod Streams

@@ -15,8 +15,6 @@ use Rattle.directory.specs.declared.Found.the-variants.{At, Nothing}
 use Rattle.directory.specs.Directory.{findOf, entries, hasFile}
 use Rattle.bitmap.specs.Bitmaps.{packedBox}
 use Rattle.fonts.specs.Bitmaps.{isBitmap, bitmapWidth, bitmapHeight}
-use Rattle.opened_font.specs.declared.Glyph.{Glyph}
-use Rattle.opened_font.specs.declared.Glyph.the-variants as glyph
 use Rattle.opened_font.specs.Glyphs.{glyphOf}
 use Rattle.state.specs.declared.Command.{Command}
 use Rattle.state.specs.declared.Command.the-variants.{Unknown, Clear, Home, SetPoint, SetPlace, WrapOn, WrapOff, ScrollOn, ScrollOff, ChooseFont, SetMetrics, SetColour, DrawPixel, DrawLine, ContinueLine, DrawFrame, FillRectangle, SetUpBar, WriteBar, SetUpStrip, ShiftStrip, ShowBitmap, DrawInline, UploadFont, UploadBitmap, DeleteFile, Purge, FlowOn, FlowOff, SetContrast, BacklightOn, BacklightOff, SetSerial}
@@ -26,7 +24,7 @@ use Rattle.state.specs.State.{barAt, stripAt}
 use Rattle.state.specs.Commands.{commandOf, argumentsOf}
 use Rattle.rules.specs.World.{World, height, port, panel, withFramebuffer, putText, Outcome, done, refused, quietly, refuseIf, arg}
 use Rattle.rules.specs.Fonts.{Opened, opened, shut, openFont}
-use Rattle.rules.specs.Text.{Place, place, nowhere, atPoint, placeX, placeY, wrapped, fitted, fontChosen, chooseFont, placeIn, setPlace, glyphAt, glyphOn, characterIn, character}
+use Rattle.rules.specs.Text.{Place, place, nowhere, atPoint, placeX, placeY, wrapped, fitted, fontChosen, chooseFont, placeIn, setPlace, Ink, Drawn, drawn, ignored, drawnBy, drawnAt, drawnOn, characterIn, character}
 use Rattle.rules.specs.Drawing.{ordered, clear, setColour, drawPixel, drawLine, drawFrame, fillRectangle}
 use Rattle.rules.specs.Bars.{inBounds, apart, setUpBar, writeBar, setUpStrip, shiftStrip}
 use Rattle.rules.specs.Pictures.{inPhase, bitmapIn, bitmapAt, showBitmap, beginInline, inlineData}
@@ -63,20 +61,20 @@ brief-tell false n o h = h
 
 -- ---- text
 
-glyph-brief : (w : World) (f : List ℕ) (o v t : ℕ) (p : Place) → Brief (glyphAt w f o v t p)
-unfolding glyphAt
-glyph-brief w f o v t nowhere = mute _
-glyph-brief w f o v t (place x y up) = silent _
+at-brief : (w : World) (i : Ink) (v t : ℕ) (p : Place) → Brief (drawnAt w i v t p)
+unfolding drawnAt
+at-brief w i v t nowhere = mute _
+at-brief w i v t (place x y up) = silent _
 
-on-brief : (w : World) (f : List ℕ) (g : Glyph) → Brief (glyphOn w f g)
-unfolding glyphOn
-on-brief w f glyph.Missing = mute _
-on-brief w f (glyph.At o v t) = glyph-brief w f o v t (fitted (height w) v t (wrapped (port w .text) v t))
+on-brief : (w : World) (d : Drawn) → Brief (drawnOn w d)
+unfolding drawnOn
+on-brief w ignored = silent w
+on-brief w (drawn i v t) = at-brief w i v t (fitted (height w) v t (wrapped (port w .text) v t))
 
 in-brief : (w : World) (c : ℕ) (o : Opened) → Brief (characterIn w c o)
 unfolding characterIn
 in-brief w c (shut r) = mute _
-in-brief w c (opened f) = on-brief w f (glyphOf f c)
+in-brief w c (opened f) = on-brief w (drawnBy f c (glyphOf f c))
 
 character-brief : (w : World) (c : ℕ) → Brief (character w c)
 unfolding character

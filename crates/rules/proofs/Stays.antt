@@ -13,8 +13,6 @@ use Rattle.pixels.proofs.Tests.{by-test}
 use Rattle.directory.specs.declared.Found.{Found}
 use Rattle.directory.specs.declared.Found.the-variants.{At, Nothing}
 use Rattle.directory.specs.Directory.{findOf, entries, hasFile}
-use Rattle.opened_font.specs.declared.Glyph.{Glyph}
-use Rattle.opened_font.specs.declared.Glyph.the-variants
 use Rattle.opened_font.specs.Glyphs.{glyphOf}
 use Rattle.fonts.specs.Bitmaps.{isBitmap}
 use Rattle.file_laws.proofs.Written.{and-both}
@@ -28,7 +26,7 @@ use Rattle.state.specs.Canonical.{canonicalUpload, canonicalPhase}
 use Rattle.state.specs.Commands.{commandOf, argumentsOf}
 use Rattle.rules.specs.World.{World, height, port, panel, Outcome, done, refused, refuseIf, arg}
 use Rattle.rules.specs.Fonts.{Opened, opened, shut, openFont}
-use Rattle.rules.specs.Text.{placeX, placeY, Place, place, nowhere, wrapped, fitted, glyphAt, glyphOn, characterIn, character, fontChosen, chooseFont, placeIn, setPlace}
+use Rattle.rules.specs.Text.{placeX, placeY, Place, place, nowhere, wrapped, fitted, Ink, Drawn, drawn, ignored, drawnBy, drawnAt, drawnOn, characterIn, character, fontChosen, chooseFont, placeIn, setPlace}
 use Rattle.rules.specs.Drawing.{ordered, clear, setColour, drawPixel, drawLine, drawFrame, fillRectangle}
 use Rattle.rules.specs.Bars.{inBounds, apart, setUpBar, writeBar, setUpStrip, shiftStrip}
 use Rattle.rules.specs.Pictures.{bitmapIn, bitmapAt, showBitmap, beginInline, inlineData}
@@ -94,20 +92,20 @@ module _ {m : ℕ} (w : World) (good-store : StoreGood m (w .store)) (k n : ℕ)
   unfolding setPlace
   place-stays c r = placing c r (openFont (height w) (w .store) (port w .text .font))
 
-  glyph-at : (f : List ℕ) (o v t : ℕ) (q : Place) → Keeps (glyphAt w f o v t q)
-  unfolding glyphAt
-  glyph-at f o v t nowhere = tt
-  glyph-at f o v t (place x y up) = same
+  drawn-at : (i : Ink) (v t : ℕ) (q : Place) → Keeps (drawnAt w i v t q)
+  unfolding drawnAt
+  drawn-at i v t nowhere = tt
+  drawn-at i v t (place x y up) = same
 
-  glyph-on : (f : List ℕ) (g : Glyph) → Keeps (glyphOn w f g)
-  unfolding glyphOn
-  glyph-on f the-variants.Missing = tt
-  glyph-on f (the-variants.At o v t) = glyph-at f o v t (fitted (height w) v t (wrapped (port w .text) v t))
+  drawn-on : (d : Drawn) → Keeps (drawnOn w d)
+  unfolding drawnOn
+  drawn-on ignored = same
+  drawn-on (drawn i v t) = drawn-at i v t (fitted (height w) v t (wrapped (port w .text) v t))
 
   in-font : (c : ℕ) (o : Opened) → Keeps (characterIn w c o)
   unfolding characterIn
   in-font c (shut r) = tt
-  in-font c (opened f) = glyph-on f (glyphOf f c)
+  in-font c (opened f) = drawn-on (drawnBy f c (glyphOf f c))
 
   character-stays : (c : ℕ) → Keeps (character w c)
   unfolding character

@@ -12,8 +12,6 @@ use Rattle.directory.specs.declared.Found.{Found}
 use Rattle.directory.specs.declared.Found.the-variants.{At, Nothing}
 use Rattle.directory.specs.Directory.{findOf}
 use Rattle.fonts.specs.Bitmaps.{bitmapWidth, bitmapHeight}
-use Rattle.opened_font.specs.declared.Glyph.{Glyph}
-use Rattle.opened_font.specs.declared.Glyph.the-variants
 use Rattle.opened_font.specs.Glyphs.{glyphOf}
 use Rattle.bar_ledger.specs.Ledger.{View, Event, quiet, setUp, wrote, painted}
 use Rattle.state.specs.declared.Command.{Command}
@@ -24,26 +22,26 @@ use Rattle.state.specs.State.{barOf, barAt, stripAt}
 use Rattle.state.specs.Commands.{commandOf, argumentsOf}
 use Rattle.rules.specs.World.{World, height, port, panel, Outcome, done, refused, arg}
 use Rattle.rules.specs.Fonts.{Opened, opened, shut, openFont}
-use Rattle.rules.specs.Text.{Place, place, nowhere, wrapped, fitted}
+use Rattle.rules.specs.Text.{Place, place, nowhere, wrapped, fitted, Drawn, drawn, ignored, drawnBy}
 use Rattle.rules.specs.Step.{outcome, noBitmap}
 
 -- the framebuffer and the bars
 abbrev pub view : World → View
 view w = record { framebuffer = w .framebuffer; bar = λ i. barAt (panel w) i .bar }
 
--- ---- a character: its box, or the whole framebuffer if it scrolls
+-- ---- a character: its box, or the whole framebuffer if it scrolls; nothing where it is ignored
 
 abbrev pub placeEvent : ℕ → ℕ → Place → Event
 placeEvent wide tall nowhere = quiet
 placeEvent wide tall (place x y up) = painted (cond (eqb up 0) (box x (x + wide) y (y + tall)) everywhere)
 
-abbrev pub glyphEvent : World → List ℕ → Glyph → Event
-glyphEvent w f the-variants.Missing = quiet
-glyphEvent w f (the-variants.At offset wide tall) = placeEvent wide tall (fitted (height w) wide tall (wrapped (port w .text) wide tall))
+abbrev pub drawnEvent : World → Drawn → Event
+drawnEvent w ignored = quiet
+drawnEvent w (drawn ink wide tall) = placeEvent wide tall (fitted (height w) wide tall (wrapped (port w .text) wide tall))
 
 abbrev pub fontEvent : World → ℕ → Opened → Event
 fontEvent w c (shut r) = quiet
-fontEvent w c (opened f) = glyphEvent w f (glyphOf f c)
+fontEvent w c (opened f) = drawnEvent w (drawnBy f c (glyphOf f c))
 
 unfoldable pub characterEvent : World → ℕ → Event
 characterEvent w c = fontEvent w c (openFont (height w) (w .store) (port w .text .font))

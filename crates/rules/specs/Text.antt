@@ -1,18 +1,19 @@
 -- Text: the text point, the current font and its metrics, and characters.
 -- Assumes nothing.
 use mathlib.Core.List.{List, []}
-use mathlib.Core.Bool.{Bool, cond, not, _&&_, _||_}
+use mathlib.Core.Bool.{Bool, true, cond, not, _&&_, _||_}
 use Prim.Native.Nat.{ℕ, _+_, _-_, _*_}
 use lib.Dec.{eqb, leb}
 use lib.ListN.{drop}
 use Rattle.refusals.specs.Refusals.{outOfBounds, glyphDoesNotFit, accepted}
-use Rattle.pixels.specs.Framebuffer.{width}
-use Rattle.bitmap.specs.Bitmaps.{packedBox}
+use Rattle.pixels.specs.Framebuffer.{Picture, width, put, plain}
+use Rattle.pixels.specs.Regions.{box}
+use Rattle.bitmap.specs.Bitmaps.{packed}
 use Rattle.scroll.specs.Scroll.{scrolled}
 use Rattle.fonts.specs.Fonts.{nominalWidth, heightOf}
 use Rattle.opened_font.specs.declared.Glyph.{Glyph}
 use Rattle.opened_font.specs.declared.Glyph.the-variants.{At, Missing}
-use Rattle.opened_font.specs.Glyphs.{glyphOf, glyphNumber}
+use Rattle.opened_font.specs.Glyphs.{glyphOf}
 use Rattle.state.specs.declared.Text.{Text}
 use Rattle.rules.specs.World.{World, height, port, withFramebuffer, putText, Outcome, quietly, refused, refuseIf, arg}
 use Rattle.rules.specs.Fonts.{Opened, opened, shut, openFont}
@@ -98,21 +99,46 @@ fitted h wide tall (place x y up) = cond (leb (x + wide) width && leb (y + tall)
 abbrev pub movedUp : ℕ → List ℕ → List ℕ
 movedUp n g = cond (eqb n 0) g (scrolled n g)
 
--- the box is painted, and x grows by width and character space: 29
-unfoldable pub glyphAt : World → List ℕ → ℕ → ℕ → ℕ → Place → Outcome
-glyphAt w f offset wide tall nowhere = refused (placeNumber nowhere) []
-glyphAt w f offset wide tall (place x y up) =
-    quietly (putText (withFramebuffer w (packedBox x y wide tall (drop offset f) (movedUp up (w .framebuffer)))) (atPoint (port w .text) (x + wide + port w .text .«char_space») y))
+-- what is painted in a character's box: set bits of packed rows black and clear ones white, or all of it black
+pub data Ink : Type 0 where
+  rows : List ℕ → Ink
+  solid : Ink
 
--- 28
-unfoldable pub glyphOn : World → List ℕ → Glyph → Outcome
-glyphOn w f Missing = refused (glyphNumber Missing) []
-glyphOn w f (At offset wide tall) = glyphAt w f offset wide tall (fitted (height w) wide tall (wrapped (port w .text) wide tall))
+abbrev pub inked : Ink → ℕ → ℕ → ℕ → Picture
+inked (rows bits) x y wide = packed x y wide bits
+inked solid x y wide = plain true
+
+-- what a character is drawn as: ink in a box, so wide and so tall; or it is ignored
+pub data Drawn : Type 0 where
+  drawn : Ink → ℕ → ℕ → Drawn
+  ignored : Drawn
+
+-- carriage return, line feed and backspace
+abbrev pub isIgnored : ℕ → Bool
+isIgnored c = eqb c 13 || eqb c 10 || eqb c 8
+
+-- a character that a font of this nominal width and this height lacks: these three are ignored, and any other is a black box
+unfoldable pub missing : ℕ → ℕ → ℕ → Drawn
+missing c wide tall = cond (isIgnored c) ignored (drawn solid wide tall)
+
+unfoldable pub drawnBy : List ℕ → ℕ → Glyph → Drawn
+drawnBy f c (At offset wide tall) = drawn (rows (drop offset f)) wide tall
+drawnBy f c Missing = missing c (nominalWidth f) (heightOf f)
+
+-- the box is painted, and x grows by width and character space: 29
+unfoldable pub drawnAt : World → Ink → ℕ → ℕ → Place → Outcome
+drawnAt w ink wide tall nowhere = refused (placeNumber nowhere) []
+drawnAt w ink wide tall (place x y up) =
+    quietly (putText (withFramebuffer w (put (box x (x + wide) y (y + tall)) (inked ink x y wide) (movedUp up (w .framebuffer)))) (atPoint (port w .text) (x + wide + port w .text .«char_space») y))
+
+unfoldable pub drawnOn : World → Drawn → Outcome
+drawnOn w ignored = quietly w
+drawnOn w (drawn ink wide tall) = drawnAt w ink wide tall (fitted (height w) wide tall (wrapped (port w .text) wide tall))
 
 unfoldable pub characterIn : World → ℕ → Opened → Outcome
 characterIn w c (shut r) = refused r []
-characterIn w c (opened f) = glyphOn w f (glyphOf f c)
+characterIn w c (opened f) = drawnOn w (drawnBy f c (glyphOf f c))
 
--- any byte but 254 outside a command: 22, 23, 28, 29
+-- any byte but 254 outside a command: 22, 23, 29
 unfoldable pub character : World → ℕ → Outcome
 character w c = characterIn w c (openFont (height w) (w .store) (port w .text .font))

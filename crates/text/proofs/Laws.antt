@@ -23,7 +23,7 @@ use Rattle.text.specs.declared.Source.{Source}
 use Rattle.text.specs.declared.Source.the-variants.{BuiltIn, Stored, Refused}
 use Rattle.text.specs.Places.{pixelBy, placeBy}
 use Rattle.text.specs.Sources.{openedBy}
-use Rattle.rules.specs.Text.{withFont, atPoint, fontChosen, chooseFont, placeIn, setPlace, characterIn, character}
+use Rattle.rules.specs.Text.{withFont, atPoint, fontChosen, chooseFont, placeIn, setPlace}
 
 -- ---- where the font of a number lies
 
@@ -118,14 +118,3 @@ module _ (g s : List ℕ) (st : State) (c r : ℕ) where
   pub place-opened : (l : List ℕ) (v k : ℕ) → openFont (st .height) s (st .port .text .font) ≡ opened l → v ≡ nominalWidth l → k ≡ heightOf l
       → setPlace (world g s st) c r ≡ placeBy (world g s st) c r v k
   place-opened l v k e d f = opened-place l e ∙ by-size l ∙ rw (d, f)
-
--- ---- characters
-
-module _ (g s : List ℕ) (st : State) (c : ℕ) where
-  pub character-shut : (k : ℕ) → openFont (st .height) s (st .port .text .font) ≡ shut k → character (world g s st) c ≡ refused k []
-  unfolding character characterIn
-  character-shut k e = rw e
-
-  pub character-opened : (l : List ℕ) → openFont (st .height) s (st .port .text .font) ≡ opened l → character (world g s st) c ≡ characterIn (world g s st) c (opened l)
-  unfolding character
-  character-opened l e = rw e

@@ -1,4 +1,4 @@
--- The text point by the size of a font, and the code's place of a character, from the rules' one.
+-- The text point by the size of a font.
 -- What contracts of private functions cite, and no rule.
 -- Assumes nothing.
 use mathlib.Core.Bool.{_||_}
@@ -7,9 +7,7 @@ use lib.Dec.{eqb, leb}
 use Rattle.refusals.specs.Refusals.{outOfBounds}
 use Rattle.pixels.specs.Framebuffer.{width}
 use Rattle.rules.specs.World.{World, height, port, putText, Outcome, quietly, refuseIf}
-use Rattle.rules.specs.Text.{atPoint, Place as Ruled, place, nowhere}
-use Rattle.text.specs.declared.Place.{Place}
-use Rattle.text.specs.declared.Place.the-variants.{At, Nowhere}
+use Rattle.rules.specs.Text.{atPoint}
 
 -- a column or a row from 1, of this size and with this space behind it
 abbrev pub pixelBy : ℕ → ℕ → ℕ → ℕ → ℕ
@@ -22,7 +20,3 @@ placeBy w column row wide tall =
     || leb (height w) (pixelBy (port w .text .top) row tall (port w .text .«line_space»))) outOfBounds
     (quietly (putText w
     (atPoint (port w .text) (pixelBy (port w .text .left) column wide (port w .text .«char_space»)) (pixelBy (port w .text .top) row tall (port w .text .«line_space»)))))
-
-unfoldable pub placeOf : Ruled → Place
-placeOf (place x y up) = At x y up
-placeOf nowhere = Nowhere

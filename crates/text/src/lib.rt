@@ -1,67 +1,45 @@
-// Text: its settings, the current font, and characters.
-use bitmap::paint_packed;
+// Text: its settings, the text point and the current font. Characters are drawn in the crate above.
 use canvas::WIDTH;
 use directory::BUILT_IN_FONT;
 use directory::FONT;
 use directory::Found;
 use directory::find;
 use directory::part;
-use directory::rest;
 use fonts::Check;
 use fonts::check_font;
 use fonts::nominal_width;
-use opened_font::Glyph;
-use opened_font::glyph_of;
 use outcome::Outcome;
 use outcome::done;
 use outcome::put_text;
 use outcome::refused;
-use refusals::GLYPH_DOES_NOT_FIT;
 use refusals::MALFORMED_FILE;
-use refusals::NO_GLYPH;
 use refusals::NO_SUCH_FILE;
 use refusals::OUT_OF_BOUNDS;
-use scroll::scroll_up;
 use state::Port;
-use state::Text;
 ghost use mathlib.Core.Path.{_≡_};
 ghost use mathlib.Core.List.{[], _∷_};
 ghost use Prim.Native.Nat.{_+_, _*_, _-_, _<_, _≤_};
 ghost use Rattle.rules.specs.World.{putText, quietly};
-ghost use Rattle.opened_font.specs.declared.Glyph.the-variants.{At};
-ghost use Rattle.builtin_font.specs.Table.{table};
-ghost use Rattle.rules.specs.Text.{atPoint, home, withWrap, withScroll, withMetrics, chooseFont, setPlace, wrapped, fitted, movedUp, glyphOn, characterIn, character};
-ghost use Rattle.rules.specs.Fonts.{opened, openFont};
+ghost use Rattle.rules.specs.Text.{atPoint, home, withWrap, withScroll, withMetrics, chooseFont, setPlace};
+ghost use Rattle.rules.specs.Fonts.{openFont};
 ghost use Rattle.outcome.specs.Contract.{unlent, lent, untold, told, Obeys};
-ghost use Rattle.text.specs.Places.{placeBy, placeOf};
+ghost use Rattle.text.specs.Places.{placeBy};
 ghost use Rattle.text.specs.Sources.{openedBy};
 
-// Where a character goes, and by how many rows the framebuffer moves up first.
-enum Place {
-    At { x: u16, y: u16, up: u16 },
-    Nowhere,
-}
-
 // Where a font lies.
-enum Source {
+pub enum Source {
     BuiltIn,
     Stored { start: usize, size: usize },
     Refused { refusal: u8 },
 }
 
-fn word(x: u8) -> u16
-    ensures { λ r. ⌜ (r ≡ x) × (r < 256) ⌝ }
-{
-    x as u16
-}
-
-fn wide(x: u16) -> u32
+pub fn wide(x: u16) -> u32
     ensures { λ r. ⌜ (r ≡ x) × (r < 65536) ⌝ }
 {
     x as u32
 }
 
-fn long(x: u8) -> u32
+pub fn long(x: u8) -> u32
     ensures { λ r. ⌜ (r ≡ x) × (r < 256) ⌝ }
 {
     x as u32
@@ -129,7 +107,7 @@ pub fn set_metrics(
 }
 
 // Where the font of a number lies, or the number of its refusal. One in the store is checked whole.
-fn find_font(store: &[u8], height: u8, number: u8) -> Source
+pub fn find_font(store: &[u8], height: u8, number: u8) -> Source
     ensures { λ r. ⌜ openedBy (now (store .entry)) r ≡ openFont height (now (store .entry)) number ⌝ }
 {
     if number == BUILT_IN_FONT {
@@ -230,149 +208,6 @@ pub fn set_place(store: &[u8], port: Port, height: u8, column: u8, row: u8) -> O
                 column,
                 row,
             )
-        }
-        Source::Refused { refusal } => refused(port, refusal),
-    }
-}
-
-// A character that passes the last column goes to the next line, onto the framebuffer moved up, or to the top.
-fn wrapped(text: Text, width: u8, tall: u8) -> Place
-    ensures { λ r. ⌜ r ≡ placeOf (wrapped text width tall) ⌝ }
-{
-    let y = word(text.y);
-    if wide(text.x) + long(width) <= wide(WIDTH) {
-        return Place::At {
-            x: text.x,
-            y: y,
-            up: 0,
-        };
-    }
-    if !text.wrap {
-        return Place::Nowhere;
-    }
-    let left = word(text.left);
-    let below = y + word(tall) + word(text.line_space);
-    if below + word(tall) <= word(text.scroll_row) {
-        return Place::At {
-            x: left,
-            y: below,
-            up: 0,
-        };
-    }
-    if text.scroll {
-        return Place::At {
-            x: left,
-            y: y,
-            up: word(tall) + word(text.line_space),
-        };
-    }
-    Place::At {
-        x: left,
-        y: word(text.top),
-        up: 0,
-    }
-}
-
-// Nowhere, too, if the box then passes the last column or the last row.
-fn place_for(text: Text, width: u8, tall: u8, height: u8) -> Place
-    ensures { λ r. ⌜ r ≡ placeOf (fitted height width tall (wrapped text width tall)) ⌝ }
-{
-    let place = wrapped(text, width, tall);
-    let Place::At { x, y, up } = place else {
-        return Place::Nowhere;
-    };
-    if wide(x) + long(width) > wide(WIDTH) {
-        return Place::Nowhere;
-    }
-    if wide(y) + long(tall) > long(height) {
-        return Place::Nowhere;
-    }
-    Place::At { x: x, y: y, up: up }
-}
-
-fn move_up(framebuffer: &mut [u8], rows: u16)
-    ensures { λ _. ⌜ now (framebuffer .exit) ≡ movedUp rows (now (framebuffer .entry)) ⌝ }
-{
-    if rows > 0 {
-        scroll_up(framebuffer, rows);
-    }
-}
-
-// A glyph of this size from its packed rows.
-fn draw_glyph(
-    framebuffer: &mut [u8],
-    port: Port,
-    height: u8,
-    width: u8,
-    tall: u8,
-    bits: &[u8],
-) -> Outcome
-    ensures { λ r. ⌜ Obeys (told height) (λ w. glyphOn w (now (bits .entry)) (At 0 width tall)) port (lent (now (framebuffer .entry)) (now (framebuffer .exit))) unlent unlent r ⌝ }
-{
-    let mut text = port.text;
-    let place = place_for(text, width, tall, height);
-    let Place::At { x, y, up } = place else {
-        return refused(port, GLYPH_DOES_NOT_FIT);
-    };
-    move_up(framebuffer, up);
-    paint_packed(framebuffer, x, y as u8, width, tall, bits);
-    text.x = x + word(width) + word(text.char_space);
-    text.y = y as u8;
-    done(put_text(port, text))
-}
-
-// A character of a font's file, which is opened for it.
-fn draw_in(framebuffer: &mut [u8], port: Port, height: u8, file: &[u8], byte: u8) -> Outcome
-    ensures { λ r. ⌜ Obeys (told height) (λ w. characterIn w byte (opened (now (file .entry)))) port (lent (now (framebuffer .entry)) (now (framebuffer .exit))) unlent unlent r ⌝ }
-{
-    let glyph = glyph_of(file, byte);
-    let Glyph::At {
-        offset,
-        width,
-        height: tall,
-    } = glyph
-    else {
-        return refused(port, NO_GLYPH);
-    };
-    draw_glyph(framebuffer, port, height, width, tall, rest(file, offset))
-}
-
-// A character of the built-in font.
-fn draw_built_in(framebuffer: &mut [u8], port: Port, height: u8, byte: u8) -> Outcome
-    ensures { λ r. ⌜ Obeys (told height) (λ w. characterIn w byte (opened table)) port (lent (now (framebuffer .entry)) (now (framebuffer .exit))) unlent unlent r ⌝ }
-{
-    if byte < builtin_font::FIRST {
-        return refused(port, NO_GLYPH);
-    }
-    if byte > builtin_font::LAST {
-        return refused(port, NO_GLYPH);
-    }
-    let rows = builtin_font::rows(byte);
-    draw_glyph(
-        framebuffer,
-        port,
-        height,
-        builtin_font::WIDTH,
-        builtin_font::HEIGHT,
-        &rows,
-    )
-}
-
-// Any byte but 254 outside a command.
-pub fn draw_character(
-    framebuffer: &mut [u8],
-    store: &[u8],
-    port: Port,
-    height: u8,
-    byte: u8,
-) -> Outcome
-    ensures { λ r. ⌜ Obeys (told height) (λ w. character w byte) port (lent (now (framebuffer .entry)) (now (framebuffer .exit))) (lent (now (store .entry)) (now (store .entry))) unlent r ⌝ }
-{
-    let source = find_font(store, height, port.text.font);
-    match source {
-        Source::BuiltIn => draw_built_in(framebuffer, port, height, byte),
-        Source::Stored { start, size } => {
-            draw_in(framebuffer, port, height, part(store, start, size), byte)
         }
         Source::Refused { refusal } => refused(port, refusal),
     }

@@ -1,0 +1,143 @@
+-- A CHARACTER THAT THE CURRENT FONT LACKS shows as a black box, or is ignored; and no refusal has number 28.
+-- Assumes nothing.
+use mathlib.Core.Path.{_≡_, _∙_, refl, ap, subst}
+use mathlib.Core.Bool.{true, false, cond, _&&_}
+use mathlib.Core.List.{List, [], _∷_}
+use Prim.Native.Nat.{ℕ, suc, _+_, _<_}
+use lib.Dec.{eqb, leb}
+use lib.ListN.{length}
+use Rattle.pixels.specs.Framebuffer.{Region, On, pixel, put, plain}
+use Rattle.pixels.specs.Regions.{box, everywhere}
+use Rattle.pixels.proofs.Painting.{pixel-put}
+use Rattle.pixels.proofs.Tests.{by-test}
+use Rattle.scroll.specs.Scroll.{scrolled}
+use Rattle.scroll.proofs.Footprint.{scroll-footprint}
+use Rattle.refusals.specs.Refusals.{noGlyph, glyphDoesNotFit, Given}
+use Rattle.fonts.specs.Fonts.{nominalWidth, heightOf, firstOf, lastOf}
+use Rattle.opened_font.specs.declared.Glyph.the-variants.{Missing}
+use Rattle.opened_font.specs.Glyphs.{glyphIn, glyphOf}
+use Rattle.bar_ledger.specs.Ledger.{quiet, painted}
+use Rattle.queue.specs.Record.{Bytes}
+use Rattle.state.specs.declared.Phase.{Phase}
+use Rattle.state.specs.declared.Phase.the-variants.{Idle}
+use Rattle.rules.specs.World.{World, height, port, withFramebuffer, putText, Outcome, done, refused, quietly}
+use Rattle.rules.specs.Fonts.{opened, openFont}
+use Rattle.rules.specs.Text.{atPoint, Place, place, nowhere, wrapped, fitted, movedUp, isIgnored, solid, missing, drawnBy, drawnAt, drawnOn, characterIn, character}
+use Rattle.rules.specs.Step.{alone, byPhase, outcome, after, step, replies}
+use Rattle.rules.specs.Sound.{Good}
+use Rattle.rules.specs.History.{lastIn, lastOf as lastRefusal}
+use Rattle.rules.specs.Events.{event, meant, characterEvent}
+use Rattle.rules.proofs.Good.{Leaves, parts}
+use Rattle.rules.proofs.GoodByte.{byte-leaves, good-step}
+
+-- outside a command, a byte that is a character below the first or above the last of the current font
+pub record Lacking (w : World) (c : ℕ) (f : List ℕ) : Type 0 where
+  pub idle : port w .line .phase ≡ Idle
+  pub no-prefix : eqb c 254 ≡ false
+  pub font : openFont (height w) (w .store) (port w .text .font) ≡ opened f
+  pub lacks : (leb (firstOf f) c && leb c (lastOf f)) ≡ false
+
+-- where a box of the nominal size goes
+abbrev pub boxPlace : World → List ℕ → Place
+boxPlace w f = fitted (height w) (nominalWidth f) (heightOf f) (wrapped (port w .text) (nominalWidth f) (heightOf f))
+
+abbrev pub nominalBox : List ℕ → ℕ → ℕ → Region
+nominalBox f x y = box x (x + nominalWidth f) y (y + heightOf f)
+
+abbrev boxedWorld : World → List ℕ → ℕ → ℕ → ℕ → World
+boxedWorld w f x y up =
+    putText (withFramebuffer w (put (nominalBox f x y) (plain true) (movedUp up (w .framebuffer)))) (atPoint (port w .text) (x + nominalWidth f + port w .text .«char_space») y)
+
+moved-long : (n : ℕ) (g : List ℕ) → length (movedUp n g) ≡ length g
+moved-long n g = by-test (λ (h : List ℕ). length h ≡ length g) (eqb n 0) g (scrolled n g) (λ _. refl) (λ _. scroll-footprint n g .long)
+
+-- THE BOX: each of its pixels is black, the text point moves by the nominal width, nothing is sent, and what is touched is the box, or all if it scrolls
+pub record Boxed (w : World) (c : ℕ) (f : List ℕ) (x y up : ℕ) : Type 0 where
+  pub black : (u v : ℕ) → On (length (w .framebuffer)) u v → nominalBox f x y u v ≡ true → pixel (step w c .framebuffer) u v ≡ true
+  pub moves : port (step w c) .text ≡ atPoint (port w .text) (x + nominalWidth f + port w .text .«char_space») y
+  pub silent : replies w c ≡ []
+  pub touches : event w c ≡ painted (cond (eqb up 0) (nominalBox f x y) everywhere)
+
+module _ (w : World) (c : ℕ) (f : List ℕ) (l : Lacking w c f) where
+  no-glyph : glyphOf f c ≡ Missing
+  unfolding glyphOf glyphIn
+  no-glyph = rw (l .lacks)
+
+  alone-is : alone w c ≡ drawnOn w (drawnBy f c Missing)
+  unfolding alone character characterIn
+  alone-is = rw (l .no-prefix, l .font, no-glyph)
+
+  comes-to : outcome w c ≡ drawnOn w (drawnBy f c Missing)
+  unfolding byPhase
+  comes-to = ap (λ (p : Phase). byPhase p w c) (l .idle) ∙ alone-is
+
+  meant-is : meant (port w .line .phase) w c ≡ characterEvent w c
+  unfolding meant
+  meant-is = ap (λ (p : Phase). meant p w c) (l .idle) ∙ rw (l .no-prefix)
+
+  module _ (i : isIgnored c ≡ true) where
+    ignores : outcome w c ≡ quietly w
+    unfolding missing drawnBy drawnOn
+    ignores = comes-to ∙ rw i
+
+    touches-nothing : characterEvent w c ≡ quiet
+    unfolding characterEvent missing drawnBy
+    touches-nothing = rw (l .font, no-glyph, i)
+
+    -- A BYTE THAT IS IGNORED changes nothing, sends nothing and touches no pixel
+    pub ignored-byte : (step w c ≡ w) × (replies w c ≡ []) × (event w c ≡ quiet)
+    unfolding step after replies event
+    ignored-byte = (rw ignores, rw ignores, rw ignores (meant-is ∙ touches-nothing))
+
+  module _ (i : isIgnored c ≡ false) where
+    as-box : outcome w c ≡ drawnAt w solid (nominalWidth f) (heightOf f) (boxPlace w f)
+    unfolding missing drawnBy drawnOn
+    as-box = comes-to ∙ rw i
+
+    -- A BOX WITHOUT ROOM is refused
+    pub box-refused : boxPlace w f ≡ nowhere → outcome w c ≡ refused glyphDoesNotFit []
+    unfolding drawnAt
+    box-refused e = as-box ∙ rw e
+
+    -- and any other is painted
+    module _ (x y up : ℕ) (there : boxPlace w f ≡ place x y up) where
+      paints : outcome w c ≡ quietly (boxedWorld w f x y up)
+      unfolding drawnAt
+      paints = as-box ∙ rw there
+
+      touches : characterEvent w c ≡ painted (cond (eqb up 0) (nominalBox f x y) everywhere)
+      unfolding characterEvent missing drawnBy
+      touches = rw (l .font, no-glyph, i, there)
+
+      stepped : step w c ≡ boxedWorld w f x y up
+      unfolding step after
+      stepped = rw paints
+
+      pub box-shown : Boxed w c f x y up
+      unfolding replies event
+      box-shown =
+          record {
+            black = λ u v on e.
+                ap (λ (z : World). pixel (z .framebuffer) u v) stepped
+                ∙ pixel-put (nominalBox f x y) (plain true) (movedUp up (w .framebuffer)) u v (rw (moved-long up (w .framebuffer)) on) ∙ rw e;
+            moves = ap (λ (z : World). port z .text) stepped;
+            silent = rw paints;
+            touches = rw paints (meant-is ∙ touches);
+          }
+
+-- ---- the numbers of refusals
+
+-- EVERY REFUSAL'S NUMBER is one that is given
+pub given : (w : World) (b : ℕ) → Good w → b < 256 → (n : ℕ) (r : List ℕ) → outcome w b ≡ refused n r → Given n
+given w b g h n r e = subst (Leaves (height w) (length (w .store))) e (byte-leaves (parts g) b h)
+
+not-28 : (w : World) (o : Outcome) (n : ℕ) → Leaves (height w) (length (w .store)) o → (n ≡ noGlyph → ⊥) → lastIn o n ≡ noGlyph → ⊥
+not-28 w (done v r) n h k = k
+not-28 w (refused m r) n h k = h .2
+
+-- so that 28 is never the last one, unless it was before
+pub never-28 : (w : World) (l : List ℕ) (n : ℕ) → Good w → Bytes l → (n ≡ noGlyph → ⊥) → lastRefusal w l n ≡ noGlyph → ⊥
+unfolding lastRefusal
+never-28 w [] n g h k = k
+never-28 w (b ∷ l) n g h k =
+    never-28 (step w b) l (lastIn (outcome w b) n) (good-step w b g (h 0)) (λ i. h (suc i)) (not-28 w (outcome w b) n (byte-leaves (parts g) b (h 0)) k)
