@@ -39,6 +39,7 @@ static const Work works[] = {
     {"a feed of no bytes, no files", 1500, nothing, feed_nothing, NULL},
     {"a feed of no bytes, 63 files", 5000, store_files, feed_nothing, NULL},
     {"text, a byte", 700, nothing, NULL, "text"},
+    {"missing letters, a byte", 0, nothing, NULL, "missing letters"},
     {"pixels, a byte", 90, nothing, NULL, "pixels"},
     {"mixed, a byte", 700, nothing, NULL, "mixed"},
     {"bars, a byte", 0, nothing, NULL, "bars"},

@@ -49,21 +49,23 @@ static bool find_place(const Plain *p, unsigned width, unsigned height, unsigned
 
 static void take_character(Plain *p, uint8_t character)
 {
-    const uint8_t *entry;
-    unsigned x, y, up, height = p->font[1];
-    if (character < p->font[2] || character > p->font[3]) {
-        plain_refuse(p, DISPLAY_REFUSED_NO_GLYPH);
+    const uint8_t *entry = p->font + 4 + 3 * (character - p->font[2]);
+    bool missing = character < p->font[2] || character > p->font[3];
+    unsigned x, y, up, width, height = p->font[1];
+    if (missing && (character == '\r' || character == '\n' || character == '\b'))
         return;
-    }
-    entry = p->font + 4 + 3 * (character - p->font[2]);
-    if (!find_place(p, entry[2], height, &x, &y, &up)) {
+    width = missing ? p->font[0] : entry[2];
+    if (!find_place(p, width, height, &x, &y, &up)) {
         plain_refuse(p, DISPLAY_REFUSED_GLYPH_DOES_NOT_FIT);
         return;
     }
     if (up)
         scroll_glass(p->glass, up);
-    p->paint->packed(p->glass, x, y, entry[2], height, p->font + 256 * entry[0] + entry[1]);
-    p->text_x = x + entry[2] + p->char_space;
+    if (missing)
+        p->paint->fill(p->glass, x, y, x + width - 1, y + height - 1, true);
+    else
+        p->paint->packed(p->glass, x, y, width, height, p->font + 256 * entry[0] + entry[1]);
+    p->text_x = x + width + p->char_space;
     p->text_y = y;
 }
 

@@ -49,6 +49,16 @@ static void scrolled_text(Stream *s)
     text(s, 8);
 }
 
+// A page of characters that the built-in font lacks, each a box.
+static void missing_letters(Stream *s)
+{
+    enum { COLUMNS = 48, LINES = 8, BEHIND = 127, CHARACTERS = 127 };
+    unsigned i;
+    PUT(s, COMMAND, CLEAR);
+    for (i = 0; i < COLUMNS * LINES; i++)
+        PUT(s, (uint8_t)(BEHIND + i % CHARACTERS));
+}
+
 // From all four sides; 57 rows high, 13 columns wide.
 static void bars(Stream *s)
 {
@@ -178,6 +188,7 @@ static void nothing(Stream *s)
 const Family families[] = {
     {"text", nothing, text_page, 1},
     {"text that scrolls", nothing, scrolled_text, 1},
+    {"missing letters", nothing, missing_letters, 1},
     {"bars", nothing, bars, 1},
     {"rectangles and frames", nothing, rectangles, 1},
     {"lines", nothing, lines, 1.2},
@@ -229,11 +240,13 @@ void every_command(Stream *s)
     PUT(s, COMMAND, METRICS, 2, 1, 1, 2, 62, COMMAND, CHOOSE_FONT, 2, COMMAND, TEXT_PLACE, 3, 2, COMMAND, HOME);
     PUT(s, COMMAND, WRAP_OFF, COMMAND, WRAP_ON, COMMAND, SCROLL_OFF, COMMAND, SCROLL_ON, COMMAND, TEXT_POINT, 0, 0);
     text(s, 6);
+    missing_letters(s);
     PUT(s, COMMAND, CHOOSE_FONT, 1, COMMAND, TEXT_PLACE, 1, 1, COMMAND, CHOOSE_FONT, 2);
     saved_bitmaps(s);
     PUT(s, COMMAND, DELETE_FILE, FONT, 2);
     delete_uploaded(s);
     scrolled_text(s);
+    missing_letters(s);
     bars(s);
     strips(s);
     rectangles(s);

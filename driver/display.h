@@ -87,7 +87,7 @@ typedef char display_length_has_8_bytes[sizeof(display_length) == 8 ? 1 : -1];
 #define DISPLAY_REFUSED_NUMBER_IN_USE 25u
 #define DISPLAY_REFUSED_UPLOAD_ABORTED 26u
 #define DISPLAY_REFUSED_BAD_WATERMARKS 27u // flow control thresholds too large together
-#define DISPLAY_REFUSED_NO_GLYPH 28u
+#define DISPLAY_REFUSED_NO_GLYPH 28u // no longer given: a character that the font lacks shows as a box
 #define DISPLAY_REFUSED_GLYPH_DOES_NOT_FIT 29u
 
 // Signals of flow control: bytes to send to the host as they are, but for NONE.
