@@ -2,9 +2,7 @@
 use canvas::is_height;
 use canvas::length_for;
 use directory::is_valid;
-use interpreter::obey_whole;
 use interpreter::step;
-use interpreter::whole_length;
 use outcome::Reply;
 use queue::HELD;
 use queue::LOST;
@@ -19,6 +17,8 @@ use state::Phase;
 use state::Port;
 use state::start_state;
 use storage::is_turned_away;
+use whole_command::obey_whole;
+use whole_command::whole_length;
 ghost use mathlib.Core.Path.{_≡_};
 ghost use Prim.Native.Nat.{_+_, _≤_};
 ghost use lib.ListN.{length, drop};

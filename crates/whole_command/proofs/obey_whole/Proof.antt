@@ -1,9 +1,9 @@
 use mathlib.Core.Path.{refl}
 use Rattle.outcome.proofs.Laws.{obeys-refused}
-use Rattle.interpreter.proofs.Whole.{short-unknown, room-there, whole-obeyed}
+use Rattle.whole_command.proofs.Whole.{short-unknown, room-there, whole-obeyed}
 use borrow.Author.Needs.{needs}
-use Rattle.interpreter.proofs.obey_whole.Statement.{statement}
-use Rattle.interpreter.proofs.obey_whole.Tie as tie
+use Rattle.whole_command.proofs.obey_whole.Statement.{statement}
+use Rattle.whole_command.proofs.obey_whole.Tie as tie
 
 refused-requires : tie.Need-refused-requires
 refused-requires c κs = search needs

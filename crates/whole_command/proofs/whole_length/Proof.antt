@@ -1,7 +1,7 @@
-use Rattle.interpreter.proofs.Whole.{whole-busy, whole-short, whole-other, whole-bitmap, whole-lacks, whole-is}
+use Rattle.whole_command.proofs.Whole.{whole-busy, whole-short, whole-other, whole-bitmap, whole-lacks, whole-is}
 use borrow.Author.Needs.{needs}
-use Rattle.interpreter.proofs.whole_length.Statement.{statement}
-use Rattle.interpreter.proofs.whole_length.Tie as tie
+use Rattle.whole_command.proofs.whole_length.Statement.{statement}
+use Rattle.whole_command.proofs.whole_length.Tie as tie
 
 is-idle-requires : tie.Need-is-idle-requires
 is-idle-requires c κs = search needs

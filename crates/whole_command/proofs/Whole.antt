@@ -22,7 +22,7 @@ use Rattle.rules.specs.Step.{obey}
 use Rattle.rules.proofs.GoodByte.{six-most}
 use Rattle.outcome.specs.declared.Outcome.{Outcome}
 use Rattle.outcome.specs.Contract.{Told, Loan, Obeys}
-use Rattle.interpreter.specs.Whole.{isIdle, commandIn, fixedArguments, lengthIn, isWhole, wholeIn}
+use Rattle.whole_command.specs.Whole.{isIdle, commandIn, fixedArguments, lengthIn, isWhole, wholeIn}
 
 -- ---- whether one stands there
 

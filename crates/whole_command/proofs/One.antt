@@ -19,9 +19,9 @@ use Rattle.rules.specs.Pictures.{inPhase}
 use Rattle.rules.specs.Step.{obey, outside, code, byPhase, outcome, after, sent, step, replies}
 use Rattle.rules.specs.Calls.{run, said, taken}
 use Rattle.rules.proofs.Replies.{replies-most}
-use Rattle.interpreter.specs.Whole.{isIdle, commandIn, fixedArguments, lengthIn, isWhole, wholeIn}
-use Rattle.interpreter.proofs.Whole.{whole-there}
+use Rattle.whole_command.specs.Whole.{isIdle, commandIn, fixedArguments, lengthIn, isWhole, wholeIn}
+use Rattle.whole_command.proofs.Whole.{whole-there}
 use Rattle.interpreter.proofs.Phases.{after-under, alone-prefix, in-idle, code-gathers, code-alone, obey-nothing, other-code, argument-kept, argument-last}
 
 -- from world w by bytes l to world v, sending s; with two free reply bytes before them all are taken
 pub record AsOne (w : World) (l : List ℕ) (v : World) (s : List ℕ) : Type 0 where

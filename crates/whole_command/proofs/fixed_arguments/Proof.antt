@@ -5,9 +5,9 @@ use borrow.Author.Needs.{needs}
 use lib.ListN.{take, drop}
 use lib.Seq.{sets}
 use Rattle.state.specs.State.{noArgs}
-use Rattle.interpreter.proofs.Whole.{argument-more, arguments-all}
-use Rattle.interpreter.proofs.fixed_arguments.Statement.{statement}
-use Rattle.interpreter.proofs.fixed_arguments.Tie as tie
+use Rattle.whole_command.proofs.Whole.{argument-more, arguments-all}
+use Rattle.whole_command.proofs.fixed_arguments.Statement.{statement}
+use Rattle.whole_command.proofs.fixed_arguments.Tie as tie
 
 abbrev Inv-loop : tie.InvT-loop
 Inv-loop bytes count args₀ i₀ args i = (i ≤ count) × (args ≡ sets noArgs 0 (take i (drop 2 bytes)))
