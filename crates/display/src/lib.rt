@@ -260,7 +260,7 @@ pub extern "C" fn display_feed(
 {
     *consumed = 0;
     *replied = 0;
-    if !record::is_recognised(state) {
+    if !record_check::is_recognised(state) {
         return BAD_RECORD;
     }
     let height = record::height_in(state);
@@ -270,7 +270,7 @@ pub extern "C" fn display_feed(
     if !store_fits(store) {
         return BAD_STORE;
     }
-    if !record::is_record(state) {
+    if !record_check::is_record(state) {
         return BAD_RECORD;
     }
     if !is_valid(store) {
@@ -294,7 +294,7 @@ pub extern "C" fn display_arrive(state: &[u8], queue: &mut [u8], byte: u8, signa
     ensures { λ r. ⌜ served r 0 (now (signal .exit)) (now (queue .exit)) ≡ arriveCall (now (state .entry)) (now (queue .entry)) byte ⌝ }
 {
     *signal = 0;
-    if !record::is_record(state) {
+    if !record_check::is_record(state) {
         return BAD_RECORD;
     }
     let flow = record::flow_in(state);
@@ -315,7 +315,7 @@ pub extern "C" fn display_take(
 {
     *byte = 0;
     *signal = 0;
-    if !record::is_record(state) {
+    if !record_check::is_record(state) {
         return BAD_RECORD;
     }
     let flow = record::flow_in(state);
