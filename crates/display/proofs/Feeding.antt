@@ -33,9 +33,9 @@ use Rattle.calls.specs.Bytes.{AllBytes}
 use Rattle.calls.specs.Memory.{Kept}
 use Rattle.calls.proofs.Lists.{take-bytes}
 use Rattle.calls.proofs.Demands.{kept-run}
-use Rattle.interpreter.specs.Whole.{commandIn, fixedArguments, wholeIn}
-use Rattle.interpreter.proofs.Whole.{sets-append}
-use Rattle.interpreter.proofs.One.{AsOne, whole-one, byte-one, whole-fits}
+use Rattle.whole_command.specs.Whole.{commandIn, fixedArguments, wholeIn}
+use Rattle.whole_command.proofs.Whole.{sets-append}
+use Rattle.whole_command.proofs.One.{AsOne, whole-one, byte-one, whole-fits}
 use Rattle.display.specs.Running.{Written, Ran}
 
 -- ---- a reply written

@@ -2,9 +2,7 @@
 use canvas::is_height;
 use canvas::length_for;
 use directory::is_valid;
-use interpreter::obey_whole;
 use interpreter::step;
-use interpreter::whole_length;
 use outcome::Reply;
 use queue::HELD;
 use queue::LOST;
@@ -19,6 +17,8 @@ use state::Phase;
 use state::Port;
 use state::start_state;
 use storage::is_turned_away;
+use whole_command::obey_whole;
+use whole_command::whole_length;
 ghost use mathlib.Core.Path.{_≡_};
 ghost use Prim.Native.Nat.{_+_, _≤_};
 ghost use lib.ListN.{length, drop};
@@ -260,7 +260,7 @@ pub extern "C" fn display_feed(
 {
     *consumed = 0;
     *replied = 0;
-    if !record::is_recognised(state) {
+    if !record_check::is_recognised(state) {
         return BAD_RECORD;
     }
     let height = record::height_in(state);
@@ -270,7 +270,7 @@ pub extern "C" fn display_feed(
     if !store_fits(store) {
         return BAD_STORE;
     }
-    if !record::is_record(state) {
+    if !record_check::is_record(state) {
         return BAD_RECORD;
     }
     if !is_valid(store) {
@@ -294,7 +294,7 @@ pub extern "C" fn display_arrive(state: &[u8], queue: &mut [u8], byte: u8, signa
     ensures { λ r. ⌜ served r 0 (now (signal .exit)) (now (queue .exit)) ≡ arriveCall (now (state .entry)) (now (queue .entry)) byte ⌝ }
 {
     *signal = 0;
-    if !record::is_record(state) {
+    if !record_check::is_record(state) {
         return BAD_RECORD;
     }
     let flow = record::flow_in(state);
@@ -315,7 +315,7 @@ pub extern "C" fn display_take(
 {
     *byte = 0;
     *signal = 0;
-    if !record::is_record(state) {
+    if !record_check::is_record(state) {
         return BAD_RECORD;
     }
     let flow = record::flow_in(state);

@@ -1,4 +1,2 @@
 pub mod Commands
 pub mod Phases
-pub mod Whole
-pub mod One

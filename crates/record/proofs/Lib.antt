@@ -3,11 +3,7 @@ pub mod Filling
 pub mod Overwriting
 pub mod Ways
 pub mod Same
-pub mod Standing
 pub mod Whole
-pub mod Testing
-pub mod SetUp
-pub mod Deciding
 pub mod Back
 pub mod Bytes
 pub mod Round

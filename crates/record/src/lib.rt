@@ -1,23 +1,21 @@
 // The state as the record of 202 bytes that a caller keeps.
-mod checking;
 mod reading;
 mod writing;
 
-use canvas::is_height;
-use checking::is_panel;
-use checking::is_port;
 use queue::Flow;
 use reading::byte_at;
 pub use reading::decode_port;
 use reading::flow_of;
+pub use reading::pair;
 use reading::panel_of;
+pub use reading::word;
 use state::State;
 use writing::encode_height;
 use writing::encode_panel;
 pub use writing::encode_port;
 ghost use mathlib.Core.Path.{_≡_};
 ghost use Rattle.record.specs.Reading.{heightIn, decodeOf};
-ghost use Rattle.record.specs.Record.{encodedIn, recognised, soundRecord};
+ghost use Rattle.record.specs.Record.{encodedIn};
 
 // Where the parts stand. The phase: 0 idle, 1 prefix, 2 gathering, 3 in line, 4 upload.
 pub const PHASE: usize = 0;
@@ -115,27 +113,4 @@ pub fn encode(s: State, out: &mut [u8])
     encode_port(port, out);
     encode_height(s.height, out);
     encode_panel(panel, out);
-}
-
-// Whether it is of the right length, with a height that there is.
-pub fn is_recognised(r: &[u8]) -> bool
-    ensures { λ b. ⌜ b ≡ recognised (now (r .entry)) ⌝ }
-{
-    if r.len() != RECORD {
-        return false;
-    }
-    is_height(height_in(r) as u32)
-}
-
-// Whether it is the record of a sound state, with thresholds below 80 and as the layout has it.
-pub fn is_record(r: &[u8]) -> bool
-    ensures { λ b. ⌜ b ≡ soundRecord (now (r .entry)) ⌝ }
-{
-    if !is_recognised(r) {
-        return false;
-    }
-    if !is_port(r) {
-        return false;
-    }
-    is_panel(r, height_in(r))
 }

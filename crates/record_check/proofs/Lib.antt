@@ -1,0 +1,4 @@
+pub mod Standing
+pub mod Testing
+pub mod SetUp
+pub mod Deciding

@@ -1,0 +1,198 @@
+-- What the port of a record is asked, as a plain test of its bytes, and one law for each way through the functions that test them.
+-- Assumes nothing.
+use mathlib.Core.Path.{_≡_, refl, sym, ap, _∙_}
+use mathlib.Core.Bool.{Bool, true, false, _&&_, and-assoc, and-true}
+use mathlib.Core.List.{List, [], _∷_, _++_}
+use Prim.Native.Nat.{ℕ, _+_, _-_, _*_, _<_}
+use native.Mathlib.Omega.{arith}
+use native.Mathlib.Decide.{ℕ-discrete}
+use lib.Dec.{eqb, ltb, leb}
+use lib.ListN.{drop}
+use lib.Seq.{getD-drop}
+use borrow.Author.Tests.{eq-eqb, ne-eqb, le-ltb, le-leb}
+use Rattle.queue.specs.Record.{at, bit, Bytes, bytesFrom}
+use Rattle.queue.proofs.Tables.{length-bytesFrom}
+use Rattle.state.specs.declared.Phase.{Phase}
+use Rattle.state.specs.declared.Phase.the-variants.{Idle, Prefix, Gathering, Inline, Upload}
+use Rattle.state.specs.Soundness.{every, soundGathering, soundInline, soundUpload, soundPhase, soundText, thresholdsFit}
+use Rattle.state.specs.Canonical.{isZero, canonicalUpload, canonicalPhase}
+use Rattle.record.specs.Reading.{flagAt, inlineOf, uploadOf, argumentsIn, textOf, flowOf, portOf}
+use Rattle.record.specs.Writing.{low, high, dataBytes, uploadBytes, textBytes, otherBytes}
+use Rattle.record_check.specs.Parts.{stands, clear, phaseStands, phaseHolds, textHolds, otherHolds}
+use Rattle.record_check.proofs.Standing.{stands-next, stands-read, clear-add, zeros-from}
+use Rattle.record.proofs.Ways.{phase-prefix, phase-gathering, phase-inline, phase-upload, phase-idle}
+
+-- ---- flags and numbers of two bytes are written as they are read
+
+pub zero-flag : (n : ℕ) → (n ≡ 1 → ⊥) → eqb n 0 ≡ ltb n 2
+zero-flag n e = elim (ℕ-discrete n 0) [ yes z ↦ rw z | no z ↦ rw (ne-eqb n 0 z, le-ltb n 2 (omega arith)) ]
+
+flag-is : (n : ℕ) → eqb n (bit (eqb n 1)) ≡ ltb n 2
+flag-is n = elim (ℕ-discrete n 1) [ yes e ↦ rw e | no e ↦ rw (ne-eqb n 1 e) (zero-flag n e) ]
+
+low-is : (a b : ℕ) → a < 256 → low (a + 256 * b) ≡ a
+low-is a b h = omega arith
+
+high-is : (a b : ℕ) → a < 256 → high (a + 256 * b) ≡ b
+high-is a b h = omega arith
+
+-- what is read stands, and the rest behind it
+read-next : (r : List ℕ) (k n : ℕ) (m : List ℕ) → stands (bytesFrom r k n ++ m) k r ≡ stands m (k + n) r
+read-next r k n m = stands-next (bytesFrom r k n) m k n r (length-bytesFrom r k n) ∙ rw (stands-read r k n)
+
+flag-next : (r : List ℕ) (k : ℕ) (m : List ℕ) → stands (bit (flagAt r k) ∷ m) k r ≡ (ltb (at r k) 2 && stands m (k + 1) r)
+unfolding stands
+flag-next r k m = ap (λ (b : Bool). b && stands m (k + 1) r) (flag-is (at r k))
+
+pub flag-first : (r : List ℕ) (k n : ℕ) → stands (bit (flagAt r k) ∷ bytesFrom r (k + 1) n) k r ≡ ltb (at r k) 2
+flag-first r k n = flag-next r k (bytesFrom r (k + 1) n) ∙ rw (stands-read r (k + 1) n) (and-true (ltb (at r k) 2))
+
+-- a flag in front, and another n bytes behind it
+pub flags-both : (r : List ℕ) (k n m : ℕ) → stands (bit (flagAt r k) ∷ (bytesFrom r (k + 1) n ++ (bit (flagAt r (k + 1 + n)) ∷ bytesFrom r (k + 1 + n + 1) m))) k r
+    ≡ (ltb (at r k) 2 && ltb (at r (k + 1 + n)) 2)
+flags-both r k n m =
+    flag-next r k (bytesFrom r (k + 1) n ++ (bit (flagAt r (k + 1 + n)) ∷ bytesFrom r (k + 1 + n + 1) m))
+    ∙ ap (λ (b : Bool). ltb (at r k) 2 && b) (read-next r (k + 1) n (bit (flagAt r (k + 1 + n)) ∷ bytesFrom r (k + 1 + n + 1) m) ∙ flag-first r (k + 1 + n) m)
+
+-- ---- the phase, with the arguments
+
+pub arguments-are : (r : List ℕ) → argumentsIn (drop 3 r) ≡ bytesFrom r 3 6
+unfolding bytesFrom
+arguments-are r = simp getD-drop
+
+module _ (r : List ℕ) (b : Bytes r) where
+  tag-first : (n : ℕ) (l : List ℕ) → at r 0 ≡ n → stands (n ∷ l) 0 r ≡ stands l 1 r
+  unfolding stands
+  tag-first n l e = rw (eq-eqb (at r 0) n e)
+
+  arguments-clear : (g : ℕ) → every isZero (drop g (argumentsIn (drop 3 r))) ≡ clear (3 + g) (6 - g) r
+  arguments-clear g = ap (λ (l : List ℕ). every isZero (drop g l)) (arguments-are r) ∙ zeros-from r g 3 6
+
+  -- where the tag alone stands in front of the arguments
+  tag-clear : (n : ℕ) (m : Bool) → at r 0 ≡ n → (stands (n ∷ 0 ∷ 0 ∷ []) 0 r && (every isZero (argumentsIn (drop 3 r)) && m)) ≡ (clear 1 8 r && m)
+  tag-clear n m e =
+      ap (λ (t : Bool). t && (every isZero (argumentsIn (drop 3 r)) && m)) (tag-first n (0 ∷ 0 ∷ []) e)
+      ∙ ap (λ (t : Bool). clear 1 2 r && (t && m)) (arguments-clear 0)
+      ∙ sym (and-assoc (clear 1 2 r) (clear 3 6 r) m)
+      ∙ ap (λ (t : Bool). t && m) (sym (clear-add 2 6 1 r))
+
+  clear-idle : at r 0 ≡ 0 → phaseStands Idle r ≡ clear 1 22 r
+  unfolding phaseStands soundPhase canonicalPhase
+  clear-idle e = tag-clear 0 (clear 9 6 r && clear 15 8 r) e ∙ ap (λ (t : Bool). clear 1 8 r && t) (sym (clear-add 6 8 9 r)) ∙ sym (clear-add 8 14 1 r)
+
+  clear-prefix : at r 0 ≡ 1 → phaseStands Prefix r ≡ clear 1 22 r
+  unfolding phaseStands soundPhase canonicalPhase
+  clear-prefix e = tag-clear 1 (clear 9 6 r && clear 15 8 r) e ∙ ap (λ (t : Bool). clear 1 8 r && t) (sym (clear-add 6 8 9 r)) ∙ sym (clear-add 8 14 1 r)
+
+  pub phase-low : (t : Bool) → at r 0 < 2 → t ≡ clear 1 22 r → t ≡ phaseHolds r
+  phase-low t h e =
+      e ∙ elim (ℕ-discrete (at r 0) 1) [
+        | yes o ↦ sym (clear-prefix o) ∙ ap (λ (p : Phase). phaseStands p r) (phase-prefix r (at r 0) refl o)
+        | no o ↦ sym (clear-idle (omega arith)) ∙ ap (λ (p : Phase). phaseStands p r) (phase-idle r (at r 0) refl o (λ z. omega arith) (λ z. omega arith) (λ z. omega arith))
+      ]
+
+  pub phase-high : 4 < at r 0 → false ≡ phaseHolds r
+  unfolding phaseStands soundPhase canonicalPhase stands
+  phase-high h =
+      let f : eqb (at r 0) 0 ≡ false = ne-eqb (at r 0) 0 (λ z. omega arith) in
+      let d : phaseStands Idle r ≡ false = rw f in
+      sym d ∙ ap (λ (p : Phase). phaseStands p r) (phase-idle r (at r 0) refl (λ z. omega arith) (λ z. omega arith) (λ z. omega arith) (λ z. omega arith))
+
+  gathering-read : at r 0 ≡ 2 → stands (2 ∷ at r 1 ∷ at r 2 ∷ []) 0 r ≡ true
+  unfolding bytesFrom
+  gathering-read e = tag-first 2 (at r 1 ∷ at r 2 ∷ []) e ∙ stands-read r 1 2
+
+  clear-gathering : at r 0 ≡ 2 → phaseStands (Gathering (at r 1) (at r 2)) r ≡ (soundGathering (at r 1) (at r 2) && (clear (3 + at r 2) (6 - at r 2) r && clear 9 14 r))
+  unfolding phaseStands soundPhase canonicalPhase
+  clear-gathering e =
+      rw (and-true (soundGathering (at r 1) (at r 2)), gathering-read e, arguments-clear (at r 2), clear-add 6 8 9 r)
+
+  pub phase-gathers : (g : ℕ) (s u v w t : Bool) → at r 0 ≡ 2 → g ≡ at r 2 → s ≡ soundGathering (at r 1) (at r 2) → u ≡ clear (3 + g) (9 - (3 + g)) r
+      → v ≡ clear 9 14 r → w ≡ (u && v) → t ≡ (s && w) → t ≡ phaseHolds r
+  phase-gathers g s u v w t e eg es eu ev ew et =
+      let n : 9 - (3 + at r 2) ≡ 6 - at r 2 = omega arith in
+      et ∙ rw (ew, ev, eu, es, eg, n) (sym (clear-gathering e)) ∙ ap (λ (p : Phase). phaseStands p r) (phase-gathering r (at r 0) refl (at r 1) (at r 2) e refl refl)
+
+  inline-plain : Phase
+  inline-plain = Inline (at r 9) (at r 10) (at r 11) (at r 12) (at r 13 + 256 * at r 14)
+
+  inline-is : inlineOf (drop 9 r) ≡ inline-plain
+  unfolding inline-plain
+  inline-is = simp getD-drop
+
+  inline-read : stands (dataBytes inline-plain) 9 r ≡ true
+  unfolding inline-plain bytesFrom
+  inline-read = rw (low-is (at r 13) (at r 14) (b 13), high-is (at r 13) (at r 14) (b 13)) (stands-read r 9 6)
+
+  clear-inline : at r 0 ≡ 3 → phaseStands inline-plain r ≡ (soundInline (at r 9) (at r 10) (at r 11) (at r 12) (at r 13 + 256 * at r 14) && (clear 1 8 r && clear 15 8 r))
+  unfolding inline-plain phaseStands soundPhase canonicalPhase
+  clear-inline e =
+      let s = soundInline (at r 9) (at r 10) (at r 11) (at r 12) (at r 13 + 256 * at r 14) in
+      rw (and-true s)
+      (ap (λ (t : Bool). s && t) (tag-clear 3 (stands (dataBytes inline-plain) 9 r && clear 15 8 r) e ∙ ap (λ (t : Bool). clear 1 8 r && (t && clear 15 8 r)) inline-read))
+
+  pub phase-inlines : (d : ℕ) (s u v w t : Bool) → at r 0 ≡ 3 → d ≡ at r 13 + 256 * at r 14 → s ≡ soundInline (at r 9) (at r 10) (at r 11) (at r 12) d → u ≡ clear 1 8 r
+      → v ≡ clear 15 8 r → w ≡ (u && v) → t ≡ (s && w) → t ≡ phaseHolds r
+  phase-inlines d s u v w t e ed es eu ev ew et =
+      et ∙ rw (ew, ev, eu, es, ed) (sym (clear-inline e)) ∙ ap (λ (p : Phase). phaseStands p r) (phase-inline r (at r 0) refl inline-plain e (sym inline-is))
+
+  upload-plain : Phase
+  upload-plain = Upload (at r 15) (at r 16) (at r 17 + 256 * at r 18) (at r 19 + 256 * at r 20) (flagAt r 21) (at r 22)
+
+  upload-is : uploadOf (drop 15 r) ≡ upload-plain
+  unfolding upload-plain
+  upload-is = simp getD-drop
+
+  upload-read : stands (uploadBytes upload-plain) 15 r ≡ ltb (at r 21) 2
+  unfolding upload-plain bytesFrom
+  upload-read =
+      rw (low-is (at r 17) (at r 18) (b 17), high-is (at r 17) (at r 18) (b 17), low-is (at r 19) (at r 20) (b 19), high-is (at r 19) (at r 20) (b 19))
+      (read-next r 15 6 (bit (flagAt r 21) ∷ bytesFrom r 22 1) ∙ flag-first r 21 1)
+
+  clear-upload : at r 0 ≡ 4 → phaseStands upload-plain r
+      ≡ ((soundUpload (at r 17 + 256 * at r 18) (at r 19 + 256 * at r 20) && canonicalUpload (at r 15) (flagAt r 21) (at r 22)) && (clear 1 14 r && ltb (at r 21) 2))
+  unfolding upload-plain phaseStands soundPhase canonicalPhase
+  clear-upload e =
+      ap (λ (t : Bool). (soundUpload (at r 17 + 256 * at r 18) (at r 19 + 256 * at r 20) && canonicalUpload (at r 15) (flagAt r 21) (at r 22)) && t)
+      (tag-clear 4 (clear 9 6 r && stands (uploadBytes upload-plain) 15 r) e
+      ∙ ap (λ (t : Bool). clear 1 8 r && (clear 9 6 r && t)) upload-read
+      ∙ sym (and-assoc (clear 1 8 r) (clear 9 6 r) (ltb (at r 21) 2))
+      ∙ ap (λ (t : Bool). t && ltb (at r 21) 2) (sym (clear-add 8 6 1 r)))
+
+  pub phase-uploads : (z n : ℕ) (s u f w t : Bool) → at r 0 ≡ 4 → z ≡ at r 17 + 256 * at r 18 → n ≡ at r 19 + 256 * at r 20
+      → s ≡ (soundUpload z n && canonicalUpload (at r 15) (flagAt r 21) (at r 22)) → u ≡ clear 1 14 r → f ≡ ltb (at r 21) 2 → w ≡ (u && f) → t ≡ (s && w) → t ≡ phaseHolds r
+  phase-uploads z n s u f w t e ez en es eu ef ew et =
+      et ∙ rw (ew, ef, eu, es, ez, en) (sym (clear-upload e)) ∙ ap (λ (p : Phase). phaseStands p r) (phase-upload r (at r 0) refl upload-plain e (sym upload-is))
+
+  -- ---- text, drawing, flow, refusals
+
+  text-plain : textBytes (textOf (drop 23 r)) ≡ bytesFrom r 23 9 ++ (bit (flagAt r 32) ∷ bit (flagAt r 33) ∷ [])
+  unfolding bytesFrom
+  text-plain = simp (getD-drop, low-is (at r 24) (at r 25) (b 24), high-is (at r 24) (at r 25) (b 24))
+
+  text-read : stands (textBytes (textOf (drop 23 r))) 23 r ≡ (ltb (at r 32) 2 && ltb (at r 33) 2)
+  unfolding bytesFrom
+  text-read = ap (λ (l : List ℕ). stands l 23 r) text-plain ∙ read-next r 23 9 (bit (flagAt r 32) ∷ bit (flagAt r 33) ∷ []) ∙ flags-both r 32 0 0
+
+  -- the row is a byte
+  text-sound : soundText (textOf (drop 23 r)) ≡ leb (at r 24 + 256 * at r 25) 495
+  unfolding soundText
+  text-sound = simp (getD-drop, le-leb (at r 26) 255 (omega (arith, b 26)), and-true)
+
+  pub text-holds : (x : ℕ) (f g w t : Bool) → f ≡ ltb (at r 32) 2 → g ≡ ltb (at r 33) 2 → w ≡ (f && g) → x ≡ at r 24 + 256 * at r 25 → t ≡ (leb x 495 && w) → t ≡ textHolds r
+  unfolding textHolds
+  text-holds x f g w t ef eg ew ex et = rw (et, ex, ew, eg, ef, text-sound, text-read)
+
+  other-plain : otherBytes (portOf r) ≡ bit (flagAt r 34) ∷ (bytesFrom r 35 2 ++ (bit (flagAt r 37) ∷ bytesFrom r 38 5))
+  unfolding portOf bytesFrom
+  other-plain = simp (getD-drop, low-is (at r 40) (at r 41) (b 40), high-is (at r 40) (at r 41) (b 40))
+
+  other-read : stands (otherBytes (portOf r)) 34 r ≡ (ltb (at r 34) 2 && ltb (at r 37) 2)
+  other-read = ap (λ (l : List ℕ). stands l 34 r) other-plain ∙ flags-both r 34 2 5
+
+  other-sound : thresholdsFit (flowOf (drop 37 r)) ≡ ltb (at r 38 + at r 39) 80
+  other-sound = simp getD-drop
+
+  pub others-hold : (x y : ℕ) (f g w t : Bool) → f ≡ ltb (at r 34) 2 → g ≡ ltb (at r 37) 2 → w ≡ (f && g) → x ≡ at r 38 → y ≡ at r 39 → t ≡ (ltb (x + y) 80 && w) → t ≡ otherHolds r
+  unfolding otherHolds
+  others-hold x y f g w t ef eg ew ex ey et = rw (et, ex, ey, ew, eg, ef, other-sound, other-read)
