@@ -13,6 +13,7 @@ use Rattle.pixels.proofs.Tests.{by-test}
 use Rattle.directory.specs.Directory.{validOf}
 use Rattle.state.specs.declared.Phase.{Phase}
 use Rattle.state.specs.declared.Phase.the-variants.{Idle, Prefix, Gathering, Inline, Upload}
+use Rattle.refusals.specs.Refusals.{noGlyph}
 use Rattle.state.specs.declared.Refusals.{Refusals}
 use Rattle.state.specs.declared.State.{State}
 use Rattle.queue.specs.Record as queue-record
@@ -24,15 +25,17 @@ use Rattle.record.specs.Record.{recognised, soundRecord}
 use Rattle.record.proofs.Bytes.{decoded-fits}
 use Rattle.record.proofs.Same.{both}
 use Rattle.record.proofs.Round.{decode-encode, encode-decode, encoded-sound, sound-recognised, passed, shown}
-use Rattle.rules.specs.World.{World, height}
+use Rattle.rules.specs.World.{World, height, port}
 use Rattle.rules.specs.Files.{inUse, lacksSpace}
-use Rattle.rules.specs.Step.{step}
+use Rattle.rules.specs.Step.{outcome, step}
+use Rattle.rules.specs.History.{lastIn, lastOf}
 use Rattle.rules.specs.Calls.{run, taken}
 use Rattle.rules.specs.Chunks.{joined, EnoughAll}
 use Rattle.rules.specs.Sound.{Welcome}
 use Rattle.rules.proofs.ByByte.{demand-3}
 use Rattle.rules.proofs.Replies.{said-fits}
 use Rattle.rules.proofs.Counts.{refusal-count, last-refusal}
+use Rattle.rules.proofs.Missing.{never-28}
 use Rattle.rules.proofs.GoodByte.{good-step, good-start, height-stays, framebuffer-length, store-length}
 use Rattle.calls.specs.Memory.{framebufferFits, Memory, storeFits, uploadRefused, checked, loaded, saved, Kept}
 use Rattle.calls.specs.Feed.{Fed, fed, fedBytes, feedOf}
@@ -99,6 +102,11 @@ height-run : (w : World) (l : List ℕ) → Kept w → AllBytes l → height (ru
 unfolding run
 height-run w [] k h = refl
 height-run w (b ∷ l) k h = height-run (step w b) l (kept-step w b k (h .0)) (h .1) ∙ height-stays w b (k .good) (h .0)
+
+never-run : (w : World) (l : List ℕ) (n : ℕ) → Kept w → AllBytes l → (n ≡ noGlyph → ⊥) → lastOf w l n ≡ noGlyph → ⊥
+unfolding lastOf
+never-run w [] n k h f = f
+never-run w (b ∷ l) n k h f = never-run (step w b) l (lastIn (outcome w b) n) (kept-step w b k (h .0)) (h .1) (never-28 w b n (k .good) (h .0) f)
 
 -- written and read back
 pub loaded-saved : (w : World) → Kept w → loaded (saved w) ≡ w
@@ -190,15 +198,18 @@ served-saved w q cs k h =
     let z = k .good .fits .panel .sixteen in
     let c = k .good .fits .port .refusals .count in
     let e = ap (λ (m : Memory). decodeOf (m .state) .port .refusals) (s .left) ∙ ap (λ (t : State). t .port .refusals) (back v (s .kept)) in
+    let i = ap (λ (r : Refusals). r .last) e ∙ last-refusal w l z c in
+    let b = consumed-bytes (board (saved w) q) cs h in
     record {
       stream = rw d (s .left);
       reads = rw d (ap loaded (s .left) ∙ loaded-saved v (s .kept));
       sent = rw d (s .sent);
       bars = rw d (demand-3 w z l);
-      inside = rw d (λ n. bars-inside (run w (take n l)) (kept-run w (take n l) k (take-bytes n l (consumed-bytes (board (saved w) q) cs h))));
+      inside = rw d (λ n. bars-inside (run w (take n l)) (kept-run w (take n l) k (take-bytes n l b)));
       count = rw d (ap (λ (r : Refusals). r .count) e ∙ refusal-count w l z c);
-      last = rw d (ap (λ (r : Refusals). r .last) e ∙ last-refusal w l z c);
-      height = ap (λ (m : Memory). heightIn (m .state)) (s .left) ∙ height-back v (s .kept) ∙ height-run w l k (consumed-bytes (board (saved w) q) cs h) ∙ sym (height-back w k);
+      last = rw d i;
+      never-28 = rw d (λ f g. never-run w l (port w .refusals .last) k b f (sym i ∙ g));
+      height = ap (λ (m : Memory). heightIn (m .state)) (s .left) ∙ height-back v (s .kept) ∙ height-run w l k b ∙ sym (height-back w k);
       again = ap checked (s .left) ∙ pass v (s .kept);
       line-again = λ f. both-true _ _ (ap (λ (m : Memory). soundRecord (m .state)) (s .left) ∙ record-sound v (s .kept)) (s .queue-kept f);
     }

@@ -5,6 +5,7 @@ use mathlib.Core.Bool.{true}
 use mathlib.Core.List.{List}
 use Prim.Native.Nat.{ℕ, _+_, _%_}
 use lib.ListN.{length, take}
+use Rattle.refusals.specs.Refusals.{noGlyph}
 use Rattle.pixels.specs.Framebuffer.{On}
 use Rattle.bar_graph.specs.Bars.{rectangleOf}
 use Rattle.bar_ledger.specs.Claim.{Agrees}
@@ -34,6 +35,8 @@ pub record Served (b : Board) (cs : List Call) : Type 0 where
   -- the history of refusals
   pub count : decodeOf (afterAll b cs .memory .state) .port .refusals .count ≡ (port (loaded (b .memory)) .refusals .count + refusedOf (loaded (b .memory)) (consumedAll b cs)) % 65536
   pub last : decodeOf (afterAll b cs .memory .state) .port .refusals .last ≡ lastOf (loaded (b .memory)) (consumedAll b cs) (port (loaded (b .memory)) .refusals .last)
+  -- no refusal has number 28, so that it is the last one only where it was before
+  pub never-28 : (port (loaded (b .memory)) .refusals .last ≡ noGlyph → ⊥) → decodeOf (afterAll b cs .memory .state) .port .refusals .last ≡ noGlyph → ⊥
   -- the height stays
   pub height : heightIn (afterAll b cs .memory .state) ≡ heightIn (b .memory .state)
   -- the next call passes the checks again: a piece, and an arrival or a take

@@ -37,7 +37,7 @@ use Rattle.rules.specs.Fonts.{opened, shut, openFont}
 use Rattle.rules.specs.Text.{atPoint, Place as Ruled, place, nowhere, wrapped, fitted, movedUp, isIgnored, Ink, rows, solid, inked, drawn, missing, drawnBy, drawnAt, drawnOn, characterIn, character}
 use Rattle.characters.specs.declared.Place.{Place}
 use Rattle.characters.specs.declared.Place.the-variants.{At, Nowhere}
-use Rattle.characters.specs.Places.{placeOf}
+use Rattle.characters.specs.Places.{placeOf, movedFor}
 
 -- ---- the wrap
 
@@ -124,16 +124,32 @@ up-some n g g' a e = e ∙ rw (ne-eqb n 0 (λ z. absurd (omega arith)))
 pub up-none : (n : ℕ) (g : List ℕ) → n ≤ 0 → g ≡ movedUp n g
 up-none n g a = rw (eq-eqb n 0 (omega arith))
 
+pub room-none : (c : Place) (p : Ruled) (g : List ℕ) → c ≡ placeOf p → c ≡ Nowhere → (Nowhere ≡ placeOf p) × (g ≡ movedFor Nowhere g)
+unfolding movedFor
+room-none c p g f e = (sym e ∙ f, refl)
+
+pub room-made : (c : Place) (p : Ruled) (x y u : ℕ) (g h : List ℕ) → c ≡ placeOf p → c ≡ At x y u → h ≡ movedUp u g → (At x y u ≡ placeOf p) × (h ≡ movedFor (At x y u) g)
+unfolding movedFor
+room-made c p x y u g h f e m = (sym e ∙ f, m)
+
+moved-by : (c : Place) (x y u : ℕ) (g h : List ℕ) → c ≡ At x y u → h ≡ movedFor c g → h ≡ movedUp u g
+unfolding movedFor
+moved-by c x y u g h e f = f ∙ rw e
+
+pub moved-none : (c : Place) (g h : List ℕ) → c ≡ Nowhere → h ≡ movedFor c g → h ≡ g
+unfolding movedFor
+moved-none c g h e f = f ∙ rw e
+
 module _ (g s : List ℕ) (st : State) (i : Ink) (v f : ℕ) (c : Place) (found : c ≡ placeOf (fitted (st .height) v f (wrapped (st .port .text) v f))) where
   pub drawn-29 : c ≡ Nowhere → drawnOn (world g s st) (drawn i v f) ≡ refused 29 []
   unfolding drawnOn drawnAt
   drawn-29 e = rw (nowhere-is (fitted (st .height) v f (wrapped (st .port .text) v f)) (sym found ∙ e))
 
-  pub drawn-done : (x y u : ℕ) (g' g'' : List ℕ) → c ≡ At x y u → g' ≡ movedUp u g → g'' ≡ put (box x (x + v) y (y + f)) (inked i x y v) g'
+  pub drawn-done : (x y u : ℕ) (g' g'' : List ℕ) → c ≡ At x y u → g' ≡ movedFor c g → g'' ≡ put (box x (x + v) y (y + f)) (inked i x y v) g'
       → drawnOn (world g s st) (drawn i v f) ≡ quietly (putText (world g'' s st) (atPoint (st .port .text) (x + v + st .port .text .«char_space») y))
   unfolding drawnOn drawnAt
   drawn-done x y u g' g'' e up paint =
-      rw (at-is (fitted (st .height) v f (wrapped (st .port .text) v f)) x y u (sym found ∙ e), paint, up)
+      rw (at-is (fitted (st .height) v f (wrapped (st .port .text) v f)) x y u (sym found ∙ e), paint, moved-by c x y u g g' e up)
 
 -- all of a box black
 pub box-filled : (x y v f a d : ℕ) (g h : List ℕ) → a ≡ v → d ≡ f → h ≡ fill (box x (x + a) y (y + d)) true g → h ≡ put (box x (x + v) y (y + f)) (inked solid x y v) g

@@ -28,7 +28,7 @@ ghost use Rattle.rules.specs.Text.{atPoint, wrapped, fitted, movedUp, isIgnored
 ghost use Rattle.rules.specs.Fonts.{opened};
 ghost use Rattle.outcome.specs.Outcome.{doneOf};
 ghost use Rattle.outcome.specs.Contract.{unlent, lent, told, Obeys};
-ghost use Rattle.characters.specs.Places.{placeOf};
+ghost use Rattle.characters.specs.Places.{placeOf, movedFor};
 
 const CARRIAGE_RETURN: u8 = 13;
 
@@ -111,6 +111,18 @@ fn move_up(framebuffer: &mut [u8], rows: u16)
     }
 }
 
+// The place of a character of this size, on the framebuffer moved up for it.
+fn make_room(framebuffer: &mut [u8], text: Text, width: u8, tall: u8, height: u8) -> Place
+    ensures { λ r. ⌜ (r ≡ placeOf (fitted height width tall (wrapped text width tall))) × (now (framebuffer .exit) ≡ movedFor r (now (framebuffer .entry))) ⌝ }
+{
+    let place = place_for(text, width, tall, height);
+    let Place::At { x, y, up } = place else {
+        return Place::Nowhere;
+    };
+    move_up(framebuffer, up);
+    Place::At { x: x, y: y, up: up }
+}
+
 // The text point behind a character of this width at (x, y).
 fn move_on(port: Port, x: u16, y: u16, width: u8) -> Outcome
     requires { ⌜ (x + width ≤ 240) × (y < 256) ⌝ }
@@ -133,11 +145,10 @@ fn draw_glyph(
 ) -> Outcome
     ensures { λ r. ⌜ Obeys (told height) (λ w. drawnOn w (drawn (rows (now (bits .entry))) width tall)) port (lent (now (framebuffer .entry)) (now (framebuffer .exit))) unlent unlent r ⌝ }
 {
-    let place = place_for(port.text, width, tall, height);
-    let Place::At { x, y, up } = place else {
+    let place = make_room(framebuffer, port.text, width, tall, height);
+    let Place::At { x, y, up: _ } = place else {
         return refused(port, GLYPH_DOES_NOT_FIT);
     };
-    move_up(framebuffer, up);
     paint_packed(framebuffer, x, y as u8, width, tall, bits);
     move_on(port, x, y, width)
 }
@@ -146,11 +157,10 @@ fn draw_glyph(
 fn draw_box(framebuffer: &mut [u8], port: Port, height: u8, width: u8, tall: u8) -> Outcome
     ensures { λ r. ⌜ Obeys (told height) (λ w. drawnOn w (drawn solid width tall)) port (lent (now (framebuffer .entry)) (now (framebuffer .exit))) unlent unlent r ⌝ }
 {
-    let place = place_for(port.text, width, tall, height);
-    let Place::At { x, y, up } = place else {
+    let place = make_room(framebuffer, port.text, width, tall, height);
+    let Place::At { x, y, up: _ } = place else {
         return refused(port, GLYPH_DOES_NOT_FIT);
     };
-    move_up(framebuffer, up);
     fill_box(
         framebuffer,
         x,

@@ -68,6 +68,7 @@ carried b l h a v =
       since-zero = λ n z. subst (λ (u : World). ShowsWhole (barAt (panel u) n .bar) (u .framebuffer)) (sym r) (zeroed w (allConsumed l) g i n z);
       count = rw (s .board-same, s .consumed-same) (v .count);
       last = rw (s .board-same, s .consumed-same) (v .last);
+      never-28 = rw (s .board-same) (v .never-28);
       height = rw (s .board-same) (v .height);
       again = rw (s .board-same) (v .again);
       line-again = rw (s .board-same) (v .line-again);

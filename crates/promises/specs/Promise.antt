@@ -5,6 +5,7 @@ use mathlib.Core.List.{List}
 use mathlib.Core.Bool.{true}
 use Prim.Native.Nat.{ℕ, _+_, _%_}
 use lib.ListN.{take}
+use Rattle.refusals.specs.Refusals.{noGlyph}
 use Rattle.pixels.specs.Framebuffer.{pixel}
 use Rattle.bar_graph.specs.declared.Bar.{Bar}
 use Rattle.bar_graph.specs.Bars.{rectangleOf, fullPicture}
@@ -47,6 +48,8 @@ pub record Promise (b : Board) (l : List Made) : Type 0 where
   -- the refusal count and the last refusal are the stream's
   pub count : decodeOf (leftAll b l .memory .state) .port .refusals .count ≡ (port (loaded (b .memory)) .refusals .count + refusedOf (loaded (b .memory)) (allConsumed l)) % 65536
   pub last : decodeOf (leftAll b l .memory .state) .port .refusals .last ≡ lastOf (loaded (b .memory)) (allConsumed l) (port (loaded (b .memory)) .refusals .last)
+  -- no refusal has number 28, so that it is the last one only where it was before
+  pub never-28 : (port (loaded (b .memory)) .refusals .last ≡ noGlyph → ⊥) → decodeOf (leftAll b l .memory .state) .port .refusals .last ≡ noGlyph → ⊥
   -- the height stays
   pub height : heightIn (leftAll b l .memory .state) ≡ heightIn (b .memory .state)
   -- the next call is not refused with 1 to 4; an arrival or a take is not where the queue record was sound

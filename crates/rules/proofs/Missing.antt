@@ -2,8 +2,8 @@
 -- Assumes nothing.
 use mathlib.Core.Path.{_≡_, _∙_, refl, ap, subst}
 use mathlib.Core.Bool.{true, false, cond, _&&_}
-use mathlib.Core.List.{List, [], _∷_}
-use Prim.Native.Nat.{ℕ, suc, _+_, _<_}
+use mathlib.Core.List.{List, []}
+use Prim.Native.Nat.{ℕ, _+_, _<_}
 use lib.Dec.{eqb, leb}
 use lib.ListN.{length}
 use Rattle.pixels.specs.Framebuffer.{Region, On, pixel, put, plain}
@@ -17,7 +17,6 @@ use Rattle.fonts.specs.Fonts.{nominalWidth, heightOf, firstOf, lastOf}
 use Rattle.opened_font.specs.declared.Glyph.the-variants.{Missing}
 use Rattle.opened_font.specs.Glyphs.{glyphIn, glyphOf}
 use Rattle.bar_ledger.specs.Ledger.{quiet, painted}
-use Rattle.queue.specs.Record.{Bytes}
 use Rattle.state.specs.declared.Phase.{Phase}
 use Rattle.state.specs.declared.Phase.the-variants.{Idle}
 use Rattle.rules.specs.World.{World, height, port, withFramebuffer, putText, Outcome, done, refused, quietly}
@@ -25,10 +24,10 @@ use Rattle.rules.specs.Fonts.{opened, openFont}
 use Rattle.rules.specs.Text.{atPoint, Place, place, nowhere, wrapped, fitted, movedUp, isIgnored, solid, missing, drawnBy, drawnAt, drawnOn, characterIn, character}
 use Rattle.rules.specs.Step.{alone, byPhase, outcome, after, step, replies}
 use Rattle.rules.specs.Sound.{Good}
-use Rattle.rules.specs.History.{lastIn, lastOf as lastRefusal}
+use Rattle.rules.specs.History.{lastIn}
 use Rattle.rules.specs.Events.{event, meant, characterEvent}
 use Rattle.rules.proofs.Good.{Leaves, parts}
-use Rattle.rules.proofs.GoodByte.{byte-leaves, good-step}
+use Rattle.rules.proofs.GoodByte.{byte-leaves}
 
 -- outside a command, a byte that is a character below the first or above the last of the current font
 pub record Lacking (w : World) (c : ℕ) (f : List ℕ) : Type 0 where
@@ -131,13 +130,10 @@ module _ (w : World) (c : ℕ) (f : List ℕ) (l : Lacking w c f) where
 pub given : (w : World) (b : ℕ) → Good w → b < 256 → (n : ℕ) (r : List ℕ) → outcome w b ≡ refused n r → Given n
 given w b g h n r e = subst (Leaves (height w) (length (w .store))) e (byte-leaves (parts g) b h)
 
-not-28 : (w : World) (o : Outcome) (n : ℕ) → Leaves (height w) (length (w .store)) o → (n ≡ noGlyph → ⊥) → lastIn o n ≡ noGlyph → ⊥
-not-28 w (done v r) n h k = k
-not-28 w (refused m r) n h k = h .2
+last-by : (n m : ℕ) (o : Outcome) (k : ℕ) → Leaves n m o → (k ≡ noGlyph → ⊥) → lastIn o k ≡ noGlyph → ⊥
+last-by n m (done v r) k h f = f
+last-by n m (refused j r) k h f = h .2
 
--- so that 28 is never the last one, unless it was before
-pub never-28 : (w : World) (l : List ℕ) (n : ℕ) → Good w → Bytes l → (n ≡ noGlyph → ⊥) → lastRefusal w l n ≡ noGlyph → ⊥
-unfolding lastRefusal
-never-28 w [] n g h k = k
-never-28 w (b ∷ l) n g h k =
-    never-28 (step w b) l (lastIn (outcome w b) n) (good-step w b g (h 0)) (λ i. h (suc i)) (not-28 w (outcome w b) n (byte-leaves (parts g) b (h 0)) k)
+-- so that 28 is the last one only where it was before
+pub never-28 : (w : World) (b k : ℕ) → Good w → b < 256 → (k ≡ noGlyph → ⊥) → lastIn (outcome w b) k ≡ noGlyph → ⊥
+never-28 w b k g h f = last-by (height w) (length (w .store)) (outcome w b) k (byte-leaves (parts g) b h) f
