@@ -211,6 +211,20 @@ static void check_refusals(void)
     }
 }
 
+// No byte outside a command is refused with the number that is no longer given, though its name is there still.
+static void check_no_glyph(void)
+{
+    unsigned byte, given = 0, refused = 0;
+    for (byte = 0; byte < 256; byte++) {
+        fresh();
+        feed(HERE, (const uint8_t[]){(uint8_t)byte}, 1);
+        given += display_last_refusal(memory.state) == DISPLAY_REFUSED_NO_GLYPH;
+        refused += display_refusal_count(memory.state) != 0;
+    }
+    CHECK("characters refused for want of a glyph", 0, given);
+    CHECK("characters refused at home", 0, refused);
+}
+
 static void refuse(unsigned times)
 {
     static uint8_t unknown[2 * 65536];
@@ -324,6 +338,7 @@ static void check_all(uint32_t rows)
     check_reply_room();
     check_settings();
     check_refusals();
+    check_no_glyph();
     check_refusal_count();
     check_queue();
     check_signals();

@@ -20,8 +20,7 @@ use Rattle.scroll.specs.Scroll.{scrolled}
 use Rattle.fonts.specs.Fonts.{nominalWidth, heightOf}
 use Rattle.opened_font.specs.declared.Glyph.{Glyph}
 use Rattle.opened_font.specs.declared.Glyph.the-variants.{At as GlyphAt, Missing}
-use Rattle.opened_font.specs.Glyphs.{glyphOf}
-use Rattle.opened_font.proofs.Laws.{glyph-before, glyph-behind}
+use Rattle.opened_font.specs.Glyphs.{glyphIn, glyphOf}
 use Rattle.builtin_font.specs.Table.{table}
 use Rattle.builtin_font.specs.Shapes.{fiveFrom, rowsOf}
 use Rattle.builtin_font.proofs.Rules.{width-is, height-is, first-is, last-is, glyph-of}
@@ -201,15 +200,27 @@ five-glyph w o (place x y u) =
 five-glyph w o nowhere = refl
 
 module _ (w : World) (b : ℕ) where
-  pub built-in-before : b < 32 → characterIn w b (opened table) ≡ drawnOn w (missing b 5 7)
-  built-in-before h = draw-lacked w b table (glyphOf table b) refl 5 7 (glyph-before table b (omega (arith, first-is))) (sym width-is) (sym height-is)
+  no-glyph : (leb 32 b && leb b 126) ≡ false → glyphOf table b ≡ Missing
+  unfolding glyphOf glyphIn
+  no-glyph e = rw (first-is, last-is, e)
 
-  pub built-in-behind : 126 < b → characterIn w b (opened table) ≡ drawnOn w (missing b 5 7)
-  built-in-behind h = draw-lacked w b table (glyphOf table b) refl 5 7 (glyph-behind table b (omega (arith, last-is))) (sym width-is) (sym height-is)
+  pub built-in-lacked : (t : Bool) → t ≡ (leb 32 b && leb b 126) → t ≡ false → characterIn w b (opened table) ≡ drawnOn w (missing b 5 7)
+  built-in-lacked t f e = draw-lacked w b table (glyphOf table b) refl 5 7 (no-glyph (sym f ∙ e)) (sym width-is) (sym height-is)
 
-  pub built-in-there : (l : List ℕ) → 32 ≤ b → b ≤ 126 → l ≡ rowsOf b → characterIn w b (opened table) ≡ drawnOn w (drawn (rows l) 5 7)
+  pub built-in-there : (t : Bool) (l : List ℕ) → t ≡ (leb 32 b && leb b 126) → t ≡ true → l ≡ rowsOf b → characterIn w b (opened table) ≡ drawnOn w (drawn (rows l) 5 7)
   unfolding characterIn drawnBy drawnOn
-  built-in-there l h k e = rw (glyph-of b h k, e, rows-are b h k) (five-glyph w (289 + 5 * (b - 32)) _)
+  built-in-there t l f i e =
+      let q = and-both (leb 32 b) (leb b 126) (sym f ∙ i) in
+      let h = leb-true 32 b (q .0) in
+      let k = leb-true b 126 (q .1) in
+      rw (glyph-of b h k, e, rows-are b h k) (five-glyph w (289 + 5 * (b - 32)) _)
+
+module _ (b : ℕ) where
+  pub built-in-before : b < 32 → false ≡ (leb 32 b && leb b 126)
+  built-in-before h = rw (lt-leb 32 b h)
+
+  pub built-in-behind : 32 ≤ b → leb b 126 ≡ (leb 32 b && leb b 126)
+  built-in-behind h = rw (le-leb 32 b h)
 
 -- ---- that a font lacks
 

@@ -21,7 +21,9 @@ use text::find_font;
 use text::long;
 use text::wide;
 ghost use mathlib.Core.Path.{_≡_};
+ghost use mathlib.Core.Bool.{_&&_};
 ghost use Prim.Native.Nat.{_+_, _<_, _≤_};
+ghost use lib.Dec.{leb};
 ghost use Rattle.builtin_font.specs.Table.{table};
 ghost use Rattle.state.specs.State.{withText};
 ghost use Rattle.rules.specs.Text.{atPoint, wrapped, fitted, movedUp, isIgnored, rows, solid, drawn, missing, drawnOn, characterIn, character};
@@ -225,39 +227,26 @@ fn draw_in(framebuffer: &mut [u8], port: Port, height: u8, file: &[u8], byte: u8
     draw_glyph(framebuffer, port, height, width, tall, rest(file, offset))
 }
 
+fn is_built_in(byte: u8) -> bool
+    ensures { λ r. ⌜ r ≡ (leb 32 byte && leb byte 126) ⌝ }
+{
+    if byte < builtin_font::FIRST {
+        return false;
+    }
+    byte <= builtin_font::LAST
+}
+
 // A character of the built-in font.
 fn draw_built_in(framebuffer: &mut [u8], port: Port, height: u8, byte: u8) -> Outcome
     ensures { λ r. ⌜ Obeys (told height) (λ w. characterIn w byte (opened table)) port (lent (now (framebuffer .entry)) (now (framebuffer .exit))) unlent unlent r ⌝ }
 {
-    if byte < builtin_font::FIRST {
-        return draw_missing(
-            framebuffer,
-            port,
-            height,
-            builtin_font::WIDTH,
-            builtin_font::HEIGHT,
-            byte,
-        );
+    let width = builtin_font::WIDTH;
+    let tall = builtin_font::HEIGHT;
+    if is_built_in(byte) {
+        let rows = builtin_font::rows(byte);
+        return draw_glyph(framebuffer, port, height, width, tall, &rows);
     }
-    if byte > builtin_font::LAST {
-        return draw_missing(
-            framebuffer,
-            port,
-            height,
-            builtin_font::WIDTH,
-            builtin_font::HEIGHT,
-            byte,
-        );
-    }
-    let rows = builtin_font::rows(byte);
-    draw_glyph(
-        framebuffer,
-        port,
-        height,
-        builtin_font::WIDTH,
-        builtin_font::HEIGHT,
-        &rows,
-    )
+    draw_missing(framebuffer, port, height, width, tall, byte)
 }
 
 // Any byte but 254 outside a command.

@@ -50,10 +50,12 @@ boxedWorld w f x y up =
 moved-long : (n : ℕ) (g : List ℕ) → length (movedUp n g) ≡ length g
 moved-long n g = by-test (λ (h : List ℕ). length h ≡ length g) (eqb n 0) g (scrolled n g) (λ _. refl) (λ _. scroll-footprint n g .long)
 
--- THE BOX: each of its pixels is black, the text point moves by the nominal width, nothing is sent, and what is touched is the box, or all if it scrolls
+-- THE BOX: each of its pixels is black, the text point moves by the nominal width, nothing is counted or sent, and what is touched is the box, or
+-- everything if it scrolls
 pub record Boxed (w : World) (c : ℕ) (f : List ℕ) (x y up : ℕ) : Type 0 where
   pub black : (u v : ℕ) → On (length (w .framebuffer)) u v → nominalBox f x y u v ≡ true → pixel (step w c .framebuffer) u v ≡ true
   pub moves : port (step w c) .text ≡ atPoint (port w .text) (x + nominalWidth f + port w .text .«char_space») y
+  pub uncounted : port (step w c) .refusals ≡ port w .refusals
   pub silent : replies w c ≡ []
   pub touches : event w c ≡ painted (cond (eqb up 0) (nominalBox f x y) everywhere)
 
@@ -120,6 +122,7 @@ module _ (w : World) (c : ℕ) (f : List ℕ) (l : Lacking w c f) where
                 ap (λ (z : World). pixel (z .framebuffer) u v) stepped
                 ∙ pixel-put (nominalBox f x y) (plain true) (movedUp up (w .framebuffer)) u v (rw (moved-long up (w .framebuffer)) on) ∙ rw e;
             moves = ap (λ (z : World). port z .text) stepped;
+            uncounted = ap (λ (z : World). port z .refusals) stepped;
             silent = rw paints;
             touches = rw paints (meant-is ∙ touches);
           }

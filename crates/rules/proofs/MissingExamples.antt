@@ -16,7 +16,6 @@ use Rattle.fonts.specs.Fonts.{offsetAt, widthAt, isEntry, areEntries, isFont}
 use Rattle.fonts.proofs.Examples.{small}
 use Rattle.opened_font.specs.Glyphs.{glyphOf, glyphIn}
 use Rattle.builtin_font.specs.Table.{table}
-use Rattle.state.specs.declared.Text.{Text}
 use Rattle.state.specs.State.{startState}
 use Rattle.rules.specs.World.{World, world, port, withFramebuffer, putText, refused}
 use Rattle.rules.specs.Fonts.{openFont, openedAt}

@@ -121,6 +121,7 @@ isIgnored c = eqb c 13 || eqb c 10 || eqb c 8
 unfoldable pub missing : ℕ → ℕ → ℕ → Drawn
 missing c wide tall = cond (isIgnored c) ignored (drawn solid wide tall)
 
+-- a character c of a font's file, by its glyph
 unfoldable pub drawnBy : List ℕ → ℕ → Glyph → Drawn
 drawnBy f c (At offset wide tall) = drawn (rows (drop offset f)) wide tall
 drawnBy f c Missing = missing c (nominalWidth f) (heightOf f)
@@ -131,6 +132,7 @@ drawnAt w ink wide tall nowhere = refused (placeNumber nowhere) []
 drawnAt w ink wide tall (place x y up) =
     quietly (putText (withFramebuffer w (put (box x (x + wide) y (y + tall)) (inked ink x y wide) (movedUp up (w .framebuffer)))) (atPoint (port w .text) (x + wide + port w .text .«char_space») y))
 
+-- what is ignored changes nothing
 unfoldable pub drawnOn : World → Drawn → Outcome
 drawnOn w ignored = quietly w
 drawnOn w (drawn ink wide tall) = drawnAt w ink wide tall (fitted (height w) wide tall (wrapped (port w .text) wide tall))

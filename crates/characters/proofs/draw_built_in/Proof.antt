@@ -1,27 +1,12 @@
 use mathlib.Core.Path.{refl}
-use Rattle.characters.proofs.Places.{built-in-before, built-in-behind, built-in-there}
+use Rattle.characters.proofs.Places.{built-in-lacked, built-in-there}
 use Rattle.outcome.proofs.Laws.{obeys-as}
 use borrow.Author.Needs.{needs}
 use Rattle.characters.proofs.draw_built_in.Statement.{statement}
 use Rattle.characters.proofs.draw_built_in.Tie as tie
 
-draw-missing-requires : tie.Need-draw-missing-requires
-draw-missing-requires c κs = search needs
-
-same-length : tie.Need-same-length
-same-length c = search needs
-
-returns : tie.Need-returns
-returns c = obeys-as (c .before .before .draw-missing .ensures) (λ h g s p. refl) (λ h g s p. built-in-before _ _ (search needs))
-
-draw-missing-requires-2 : tie.Need-draw-missing-requires-2
-draw-missing-requires-2 c κs = search needs
-
-same-length-2 : tie.Need-same-length-2
-same-length-2 c = search needs
-
-returns-2 : tie.Need-returns-2
-returns-2 c = obeys-as (c .before .before .draw-missing2 .ensures) (λ h g s p. refl) (λ h g s p. built-in-behind _ _ (search needs))
+is-built-in-requires : tie.Need-is-built-in-requires
+is-built-in-requires c κs = search needs
 
 rows-requires : tie.Need-rows-requires
 rows-requires c κs = search needs
@@ -32,24 +17,31 @@ slice-aggregate-draw-glyph c = search needs
 draw-glyph-requires : tie.Need-draw-glyph-requires
 draw-glyph-requires c κs = search needs
 
-same-length-3 : tie.Need-same-length-3
-same-length-3 c = search needs
+same-length : tie.Need-same-length
+same-length c = search needs
 
-returns-3 : tie.Need-returns-3
-returns-3 c = obeys-as (c .before .before .draw-glyph .ensures) (λ h g s p. refl) (λ h g s p. built-in-there _ _ _ (search needs) (search needs) (c .before .before .before .before .before .rows .ensures))
+returns : tie.Need-returns
+returns c = obeys-as (c .before .before .draw-glyph .ensures) (λ h g s p. refl) (λ h g s p. built-in-there _ _ _ _ (c .before .before .before .before .before .before .before .is-built-in .ensures) (search needs) (c .before .before .before .before .before .rows .ensures))
+
+draw-missing-requires : tie.Need-draw-missing-requires
+draw-missing-requires c κs = search needs
+
+same-length-2 : tie.Need-same-length-2
+same-length-2 c = search needs
+
+returns-2 : tie.Need-returns-2
+returns-2 c = obeys-as (c .before .before .draw-missing .ensures) (λ h g s p. refl) (λ h g s p. built-in-lacked _ _ _ (c .before .before .before .before .before .is-built-in .ensures) (search needs))
 
 pub draw-built-in-spec : {M : Type 1} → statement M
 draw-built-in-spec =
     tie.close
     (tie.spec
-    draw-missing-requires
-    same-length
-    returns
-    draw-missing-requires-2
-    same-length-2
-    returns-2
+    is-built-in-requires
     rows-requires
     slice-aggregate-draw-glyph
     draw-glyph-requires
-    same-length-3
-    returns-3)
+    same-length
+    returns
+    draw-missing-requires
+    same-length-2
+    returns-2)
