@@ -2,199 +2,26 @@
 use canvas::is_height;
 use canvas::length_for;
 use directory::is_valid;
-use interpreter::step;
-use outcome::Reply;
+use feed::BAD_DIRECTORY;
+use feed::BAD_FRAMEBUFFER;
+use feed::BAD_RECORD;
+use feed::BAD_STORE;
+use feed::DONE;
+use feed::feed_piece;
+use feed::store_fits;
 use queue::HELD;
 use queue::LOST;
 use queue::LOST_HIGH;
 use queue::MARK;
 use queue::PLACE;
-use record::PANEL;
 use record::RECORD;
-use record::decode_port;
-use record::encode_port;
-use state::Phase;
-use state::Port;
 use state::start_state;
-use storage::is_turned_away;
-use whole_command::obey_whole;
-use whole_command::whole_length;
 ghost use mathlib.Core.Path.{_≡_};
-ghost use Prim.Native.Nat.{_+_, _≤_};
-ghost use lib.ListN.{length, drop};
-ghost use lib.Seq.{sets};
-ghost use Rattle.state.specs.State.{state};
-ghost use Rattle.record.specs.Layout.{panelAt, recordSize};
-ghost use Rattle.record.specs.Reading.{heightIn, panelOf};
-ghost use Rattle.record.specs.Writing.{encodeOf};
-ghost use Rattle.rules.specs.World.{world};
-ghost use Rattle.outcome.specs.Outcome.{sentBy};
-ghost use Rattle.calls.specs.Memory.{memory, storeFits, uploadRefused, Kept};
+ghost use lib.ListN.{length};
+ghost use Rattle.calls.specs.Memory.{memory};
 ghost use Rattle.calls.specs.Start.{started, startOf, emptied};
 ghost use Rattle.calls.specs.Line.{served, arriveCall, takeCall};
-ghost use Rattle.display.specs.Exports.{called, feedCall};
-ghost use Rattle.display.specs.Running.{Written, Ran, RanOn};
-
-// Answers; those of the queue are its own.
-pub const DONE: u32 = 0;
-
-pub const BAD_FRAMEBUFFER: u32 = 1;
-
-pub const BAD_STORE: u32 = 2;
-
-pub const BAD_RECORD: u32 = 3;
-
-pub const BAD_DIRECTORY: u32 = 4;
-
-pub const NO_REPLY_ROOM: u32 = 5;
-
-// The store's bytes, at least and at most.
-pub const STORE_LEAST: usize = 1024;
-
-pub const STORE_MOST: usize = 32768;
-
-// Free reply bytes that a byte needs.
-pub const REPLY_ROOM: usize = 2;
-
-struct Progress {
-    port: Port,
-    answer: u32,
-    consumed: usize,
-    replied: usize,
-}
-
-// Writes a reply from number `at` on; the answer is the number behind it.
-fn send(replies: &mut [u8], at: usize, reply: Reply) -> usize
-    requires { ⌜ at + 2 ≤ length (now replies) ⌝ }
-    ensures { λ r. ⌜ (r ≡ at + length (sentBy reply)) × (now (replies .exit) ≡ sets (now (replies .entry)) at (sentBy reply)) ⌝ }
-{
-    if reply.count == 0 {
-        return at;
-    }
-    replies[at] = reply.first;
-    if reply.count == 1 {
-        return at + 1;
-    }
-    replies[at + 1] = reply.second;
-    at + 2
-}
-
-// Obeys a piece as far as the reply room goes.
-fn run(
-    framebuffer: &mut [u8],
-    store: &mut [u8],
-    panel: &mut [u8],
-    height: u8,
-    port: Port,
-    piece: &[u8],
-    replies: &mut [u8],
-) -> Progress
-    requires { ⌜ Kept (world (now framebuffer) (now store) (state height port (panelOf (now panel)))) × Written (now panel) ⌝ }
-    ensures { λ r. ⌜ Ran (world (now (framebuffer .entry)) (now (store .entry)) (state height port (panelOf (now (panel .entry))))) (now (piece .entry)) (now (replies .entry)) (world (now (framebuffer .exit)) (now (store .exit)) (state height (r .port) (panelOf (now (panel .exit))))) (now (replies .exit)) (r .answer) (r .consumed) (r .replied) × Written (now (panel .exit)) ⌝ }
-{
-    let mut p = port;
-    let mut i = 0;
-    let mut at = 0;
-    while i < piece.len() {
-        if replies.len() - at < REPLY_ROOM {
-            return Progress {
-                port: p,
-                answer: NO_REPLY_ROOM,
-                consumed: i,
-                replied: at,
-            };
-        }
-        let line = p.line;
-        let phase = line.phase;
-        let rest = &piece[i..];
-        let n = whole_length(phase, rest);
-        if n > 0 {
-            let o = obey_whole(framebuffer, store, panel, p, height, rest);
-            let next = o.port;
-            p = next;
-            i += n;
-            at = send(replies, at, o.reply);
-            continue;
-        }
-        let o = step(framebuffer, store, panel, p, height, piece[i]);
-        let next = o.port;
-        p = next;
-        i += 1;
-        at = send(replies, at, o.reply);
-    }
-    Progress {
-        port: p,
-        answer: DONE,
-        consumed: i,
-        replied: at,
-    }
-}
-
-// The same on a state record, whose port is written back when all is done.
-fn run_on(
-    framebuffer: &mut [u8],
-    store: &mut [u8],
-    record: &mut [u8],
-    height: u8,
-    port: Port,
-    piece: &[u8],
-    replies: &mut [u8],
-) -> Progress
-    requires { ⌜ Kept (world (now framebuffer) (now store) (state height port (panelOf (drop panelAt (now «record»))))) × Written (drop panelAt (now «record»)) × (length (now «record») ≡ recordSize) × (height ≡ heightIn (now «record»)) × (encodeOf (state height port (panelOf (drop panelAt (now «record»)))) ≡ now «record») ⌝ }
-    ensures { λ r. ⌜ RanOn (now (framebuffer .entry)) (now (store .entry)) (now («record» .entry)) height port (now (piece .entry)) (now (replies .entry)) (now (framebuffer .exit)) (now (store .exit)) (now («record» .exit)) (r .port) (now (replies .exit)) (r .answer) (r .consumed) (r .replied) ⌝ }
-{
-    let ran = run(
-        framebuffer,
-        store,
-        &mut record[PANEL..RECORD],
-        height,
-        port,
-        piece,
-        replies,
-    );
-    // What obeys no byte leaves the record as it is.
-    if ran.consumed == 0 {
-        return ran;
-    }
-    let next = ran.port;
-    encode_port(next, record);
-    ran
-}
-
-fn store_fits(store: &[u8]) -> bool
-    ensures { λ r. ⌜ r ≡ storeFits (now (store .entry)) ⌝ }
-{
-    if store.len() < STORE_LEAST {
-        return false;
-    }
-    store.len() <= STORE_MOST
-}
-
-// Whether an upload under way would now be refused.
-fn is_blocked(store: &[u8], phase: Phase) -> bool
-    ensures { λ r. ⌜ r ≡ uploadRefused (now (store .entry)) phase ⌝ }
-{
-    match phase {
-        Phase::Idle => false,
-        Phase::Prefix => false,
-        Phase::Gathering { code: _, got: _ } => false,
-        Phase::Inline {
-            x1: _,
-            y1: _,
-            x2: _,
-            y2: _,
-            done: _,
-        } => false,
-        Phase::Upload {
-            kind,
-            number,
-            size,
-            stored: _,
-            waiting: _,
-            byte: _,
-        } => is_turned_away(store, kind, number, size),
-    }
-}
+ghost use Rattle.feed.specs.Called.{called, feedCall};
 
 // Nothing held, nothing lost; the ring's bytes stay.
 fn empty_queue(queue: &mut [u8])
@@ -258,34 +85,7 @@ pub extern "C" fn display_feed(
 ) -> u32
     ensures { λ r. ⌜ called r (memory (now (framebuffer .exit)) (now (store .exit)) (now (state .exit))) (now (replies .exit)) (now (consumed .exit)) (now (replied .exit)) ≡ feedCall (memory (now (framebuffer .entry)) (now (store .entry)) (now (state .entry))) (now (piece .entry)) (now (replies .entry)) ⌝ }
 {
-    *consumed = 0;
-    *replied = 0;
-    if !record_check::is_recognised(state) {
-        return BAD_RECORD;
-    }
-    let height = record::height_in(state);
-    if framebuffer.len() != length_for(height) {
-        return BAD_FRAMEBUFFER;
-    }
-    if !store_fits(store) {
-        return BAD_STORE;
-    }
-    if !record_check::is_record(state) {
-        return BAD_RECORD;
-    }
-    if !is_valid(store) {
-        return BAD_DIRECTORY;
-    }
-    let port = decode_port(state);
-    let line = port.line;
-    let phase = line.phase;
-    if is_blocked(store, phase) {
-        return BAD_DIRECTORY;
-    }
-    let ran = run_on(framebuffer, store, state, height, port, piece, replies);
-    *consumed = ran.consumed;
-    *replied = ran.replied;
-    ran.answer
+    feed_piece(framebuffer, store, state, piece, replies, consumed, replied)
 }
 
 // A byte comes in on the line.

@@ -6,9 +6,9 @@ use canvas::TALL_HEIGHT;
 use canvas::TALL_LENGTH;
 use canvas::WIDTH;
 use canvas::is_black;
-use display::STORE_MOST;
 use display::display_feed;
 use display::display_start;
+use feed::STORE_MOST;
 ghost use Prim.Native.Nat.{_≤_};
 ghost use lib.ListN.{length};
 

@@ -23,7 +23,7 @@ use Rattle.calls.specs.List.{Board, board}
 use Rattle.calls.specs.Bytes.{BytesInAll}
 use Rattle.calls.proofs.Lists.{take-bytes}
 use Rattle.calls.proofs.Demands.{kept-run, loaded-saved, fed-kept, line-kept}
-use Rattle.display.specs.Exports.{Called, feedCall}
+use Rattle.feed.specs.Called.{Called, feedCall}
 use Rattle.promises.specs.Made.{Made, fed, arrived, handed, refusedFeed, refusedArrive, refusedTake, refusedStart, lent, lentMemory, MeetsAll, left, callsOf}
 use Rattle.promises.specs.Answers.{Answers, AnswersAll}
 use Rattle.promises.proofs.Refusals.{refused-feed, refused-start, refused-arrive, refused-take}

@@ -9,7 +9,7 @@ use Rattle.calls.specs.Memory.{Memory}
 use Rattle.calls.specs.Feed.{Fed, feedOf}
 use Rattle.calls.specs.Line.{Served}
 use Rattle.calls.specs.List.{Board, board, afterAll, consumedAll, sentAll}
-use Rattle.display.specs.Exports.{Called, calledBy, feedCall}
+use Rattle.feed.specs.Called.{Called, calledBy, feedCall}
 use Rattle.promises.specs.Made.{Made, fed, arrived, handed, refusedFeed, refusedArrive, refusedTake, refusedStart, lentMemory, MeetsAll, left, leftAll, allConsumed, allSent, callsOf}
 use Rattle.promises.proofs.Refusals.{refused-feed}
 use Rattle.promises.proofs.Unmoved.{feed-unmoved, arrive-unmoved, take-unmoved, start-unmoved}

@@ -14,7 +14,7 @@ use Rattle.calls.specs.Feed.{feedOf}
 use Rattle.calls.specs.Start.{Started, started, startChecked, startOf}
 use Rattle.calls.specs.Line.{Served, served, bothSound, arriveCall, takeCall}
 use Rattle.calls.proofs.LineCalls as line
-use Rattle.display.specs.Exports.{Called, called, feedCall}
+use Rattle.feed.specs.Called.{Called, called, feedCall}
 
 -- 1 to 4 of a piece: every lent byte stays, nothing is consumed, nothing replied
 pub refused-feed : (m : Memory) (p r : List ℕ) (c : Called) → c ≡ feedCall m p r → eqb (checked m) 0 ≡ false → c ≡ called (checked m) m r 0 0

@@ -7,7 +7,7 @@ use Rattle.calls.specs.Memory.{Memory}
 use Rattle.calls.specs.Start.{Started}
 use Rattle.calls.specs.Line.{Served}
 use Rattle.calls.specs.List.{Board, board}
-use Rattle.display.specs.Exports.{Called}
+use Rattle.feed.specs.Called.{Called}
 use Rattle.promises.specs.Made.{Slice, own, other, lent, returned, Slices, lentMemory, returnedMemory, Meets, left, refusedFeed, refusedArrive, refusedTake, refusedStart}
 use Rattle.promises.proofs.Refusals.{refused-feed, refused-start, refused-arrive, refused-take}
 

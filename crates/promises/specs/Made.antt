@@ -11,7 +11,7 @@ use Rattle.calls.specs.Memory.{Memory, memory, checked}
 use Rattle.calls.specs.Start.{Started, startChecked, startOf}
 use Rattle.calls.specs.Line.{Served, bothSound, arriveCall, takeCall}
 use Rattle.calls.specs.List.{Board, board, Call, feeds, arrives, takes}
-use Rattle.display.specs.Exports.{Called, feedCall}
+use Rattle.feed.specs.Called.{Called, feedCall}
 
 -- ---- what is lent
 

@@ -1,7 +1,7 @@
 // A command that stands whole at the front of what is left of a piece: how many bytes it has, and obeyed at once.
+use commands::obey;
 use interpreter::PREFIX;
 use interpreter::SHOW_BITMAP;
-use interpreter::obey;
 use outcome::Outcome;
 use outcome::refused;
 use refusals::UNKNOWN_COMMAND;

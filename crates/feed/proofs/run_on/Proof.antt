@@ -1,10 +1,10 @@
 -- `run_on` meets its contract.
 -- Assumes nothing.
 use mathlib.Core.Path.{refl}
-use Rattle.display.proofs.Ways.{lent-ready, ran-none, ran-on}
+use Rattle.feed.proofs.Ways.{lent-ready, ran-none, ran-on}
 use borrow.Author.Needs.{needs}
-use Rattle.display.proofs.run_on.Statement.{statement}
-use Rattle.display.proofs.run_on.Tie as tie
+use Rattle.feed.proofs.run_on.Statement.{statement}
+use Rattle.feed.proofs.run_on.Tie as tie
 
 sub-run : tie.Need-sub-run
 sub-run c = search needs

@@ -1,9 +1,9 @@
--- `display_feed` meets its contract.
+-- `feed_piece` meets its contract.
 -- Assumes nothing.
-use Rattle.display.proofs.Ways.{feed-3-first, feed-1, feed-2, feed-3, feed-4, feed-4-upload, passes, ready, feed-end}
+use Rattle.feed.proofs.Ways.{feed-3-first, feed-1, feed-2, feed-3, feed-4, feed-4-upload, passes, ready, feed-end}
 use borrow.Author.Needs.{needs}
-use Rattle.display.proofs.display_feed.Statement.{statement}
-use Rattle.display.proofs.display_feed.Tie as tie
+use Rattle.feed.proofs.feed_piece.Statement.{statement}
+use Rattle.feed.proofs.feed_piece.Tie as tie
 
 is-recognised-requires : tie.Need-is-recognised-requires
 is-recognised-requires c κs = search needs
@@ -95,8 +95,8 @@ same-length-14 c = search needs
 returns-7 : tie.Need-returns-7
 returns-7 c = feed-end _ _ _ _ _ _ _ _ _ _ _ _ _ _ _ (passes _ _ _ (c .before .before .before .before .before .before .before .before .before .before .before .before .before .before .before .before .before .before .before .before .before .before .before .before .before .before .before .before .before .before .before .before .before .before .before .before .before .before .before .before .args .piece .now) (c .before .before .before .before .before .before .before .before .before .before .before .before .before .before .before .before .before .before .before .before .before .before .before .before .before .before .before .before .before .before .before .before .before .before .before .before .before .before .before .before .args .replies .now) _ (c .before .before .before .before .before .before .before .before .before .before .before .before .before .before .before .before .before .before .before .before .before .before .before .before .before .before .before .before .before .before .before .before .before .is-recognised .ensures) (c .before .before .before .before .before .before .before .before .before .before .before .before .before .before .before .before .before .before .before .before .before .before .before .before .before .before .before .before .before .before .before .before .if1 .left) _ _ (c .before .before .before .before .before .before .before .before .before .before .before .before .before .before .before .before .before .before .before .before .before .before .before .before .before .before .before .before .before .before .height-in .ensures) (c .before .before .before .before .before .before .before .before .before .before .before .before .before .before .before .before .before .before .before .before .before .before .before .before .before .before .before .before .before .length-for .ensures) (c .before .before .before .before .before .before .before .before .before .before .before .before .before .before .before .before .before .before .before .before .before .before .before .before .before .before .before .before .if2 .left) _ (c .before .before .before .before .before .before .before .before .before .before .before .before .before .before .before .before .before .before .before .before .before .before .before .before .before .before .store-fits .ensures) (c .before .before .before .before .before .before .before .before .before .before .before .before .before .before .before .before .before .before .before .before .before .before .before .before .before .if3 .left) _ (c .before .before .before .before .before .before .before .before .before .before .before .before .before .before .before .before .before .before .before .before .before .before .before .is-record .ensures) (c .before .before .before .before .before .before .before .before .before .before .before .before .before .before .before .before .before .before .before .before .before .before .if4 .left) _ (c .before .before .before .before .before .before .before .before .before .before .before .before .before .before .before .before .before .before .before .before .is-valid .ensures) (c .before .before .before .before .before .before .before .before .before .before .before .before .before .before .before .before .before .before .before .if5 .left) _ _ (c .before .before .before .before .before .before .before .before .before .before .before .before .before .before .before .before .before .decode-port .ensures) (c .before .before .before .before .before .before .before .before .before .before .before .before .before .before .is-blocked .ensures) (c .before .before .before .before .before .before .before .before .before .before .before .before .before .if6 .left)) (c .before .before .before .before .before .before .before .before .before .before .before .before .before .before .before .before .before .before .before .before .before .before .before .before .before .before .before .before .before .before .height-in .ensures) (c .before .before .before .before .before .before .before .before .before .before .before .before .before .before .before .before .before .decode-port .ensures) (c .before .before .before .before .before .before .before .before .run-on .ensures)
 
-pub display-feed-spec : {M : Type 1} → statement M
-display-feed-spec =
+pub feed-piece-spec : {M : Type 1} → statement M
+feed-piece-spec =
     tie.close
     (tie.spec
     is-recognised-requires

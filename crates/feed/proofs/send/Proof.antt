@@ -1,9 +1,9 @@
-use Rattle.display.proofs.Feeding.{sends-none, sends-one, sends-two}
+use Rattle.feed.proofs.Feeding.{sends-none, sends-one, sends-two}
 use native.Mathlib.Omega.{arith}
 use lib.ListN.{length-set}
 use borrow.Author.Needs.{needs}
-use Rattle.display.proofs.send.Statement.{statement}
-use Rattle.display.proofs.send.Tie as tie
+use Rattle.feed.proofs.send.Statement.{statement}
+use Rattle.feed.proofs.send.Tie as tie
 
 returns : tie.Need-returns
 returns c = sends-none _ _ _ (search needs)

@@ -1,11 +1,11 @@
 use mathlib.Core.Path.{refl, sym, ap}
-use Rattle.interpreter.proofs.Commands.{obeys-command, obeys-unknown}
+use Rattle.commands.proofs.Commands.{obeys-command, obeys-unknown}
 use Rattle.rules.specs.Files.{beginUpload}
 use Rattle.rules.specs.Step.{obey}
 use Rattle.state.specs.declared.Command.the-variants.{Unknown, Clear, Home, SetPoint, SetPlace, WrapOn, WrapOff, ScrollOn, ScrollOff, ChooseFont, SetMetrics, SetColour, DrawPixel, DrawLine, ContinueLine, DrawFrame, FillRectangle, SetUpBar, WriteBar, SetUpStrip, ShiftStrip, ShowBitmap, DrawInline, UploadFont, UploadBitmap, DeleteFile, Purge, FlowOn, FlowOff, SetContrast, BacklightOn, BacklightOff, SetSerial}
 use borrow.Author.Needs.{needs}
-use Rattle.interpreter.proofs.obey.Statement.{statement}
-use Rattle.interpreter.proofs.obey.Tie as tie
+use Rattle.commands.proofs.obey.Statement.{statement}
+use Rattle.commands.proofs.obey.Tie as tie
 
 enum-told : tie.Need-enum-told
 enum-told c = search needs

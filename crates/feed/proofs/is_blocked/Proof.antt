@@ -1,7 +1,7 @@
-use Rattle.display.proofs.Ways.{blocked-is}
+use Rattle.feed.proofs.Ways.{blocked-is}
 use borrow.Author.Needs.{needs}
-use Rattle.display.proofs.is_blocked.Statement.{statement}
-use Rattle.display.proofs.is_blocked.Tie as tie
+use Rattle.feed.proofs.is_blocked.Statement.{statement}
+use Rattle.feed.proofs.is_blocked.Tie as tie
 
 enum-told : tie.Need-enum-told
 enum-told c = search needs

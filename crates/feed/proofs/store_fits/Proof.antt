@@ -1,7 +1,7 @@
-use Rattle.display.proofs.Ways.{store-short, store-long}
+use Rattle.feed.proofs.Ways.{store-short, store-long}
 use borrow.Author.Needs.{needs}
-use Rattle.display.proofs.store_fits.Statement.{statement}
-use Rattle.display.proofs.store_fits.Tie as tie
+use Rattle.feed.proofs.store_fits.Statement.{statement}
+use Rattle.feed.proofs.store_fits.Tie as tie
 
 returns : tie.Need-returns
 returns c = store-short (c .before .args .store .now) (search needs)

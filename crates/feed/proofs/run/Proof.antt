@@ -8,10 +8,10 @@ use Rattle.state.specs.State.{state}
 use Rattle.record.specs.Reading.{panelOf}
 use Rattle.rules.specs.World.{world}
 use Rattle.outcome.specs.Contract.{held}
-use Rattle.display.specs.Running.{Written}
-use Rattle.display.proofs.Feeding.{Feeding, feeding-start, feeding-more, feeding-stop, feeding-end, room-known, stepped, one-kept, command-one, command-fits, byte-there}
-use Rattle.display.proofs.run.Statement.{statement}
-use Rattle.display.proofs.run.Tie as tie
+use Rattle.feed.specs.Running.{Written}
+use Rattle.feed.proofs.Feeding.{Feeding, feeding-start, feeding-more, feeding-stop, feeding-end, room-known, stepped, one-kept, command-one, command-fits, byte-there}
+use Rattle.feed.proofs.run.Statement.{statement}
+use Rattle.feed.proofs.run.Tie as tie
 
 abbrev Inv-loop : tie.InvT-loop
 Inv-loop framebuffer₀ store₀ panel₀ height piece replies₀ p₀ i₀ at₀ framebuffer store panel replies p i at =

@@ -36,7 +36,7 @@ use Rattle.calls.proofs.Demands.{kept-run}
 use Rattle.whole_command.specs.Whole.{commandIn, fixedArguments, wholeIn}
 use Rattle.whole_command.proofs.Whole.{sets-append}
 use Rattle.whole_command.proofs.One.{AsOne, whole-one, byte-one, whole-fits}
-use Rattle.display.specs.Running.{Written, Ran}
+use Rattle.feed.specs.Running.{Written, Ran}
 
 -- ---- a reply written
 

@@ -1,0 +1,89 @@
+// Every command with its fixed arguments, obeyed by the function of its family.
+use directory::BITMAP;
+use directory::FONT;
+use outcome::Outcome;
+use outcome::refused;
+use refusals::UNKNOWN_COMMAND;
+use state::ARGUMENTS;
+use state::Command;
+use state::Port;
+ghost use mathlib.Core.Path.{_≡_};
+ghost use Prim.Native.Nat.{_+_, _*_};
+ghost use Rattle.rules.specs.Step.{obey};
+ghost use Rattle.outcome.specs.Contract.{lent, told, Obeys};
+
+// A size of two bytes.
+fn size_of(low: u8, high: u8) -> u16
+    ensures { λ r. ⌜ r ≡ low + 256 * high ⌝ }
+{
+    low as u16 + 256 * (high as u16)
+}
+
+// A command with its fixed arguments.
+pub fn obey(
+    command: Command,
+    a: [u8; ARGUMENTS],
+    framebuffer: &mut [u8],
+    store: &mut [u8],
+    panel: &mut [u8],
+    port: Port,
+    height: u8,
+) -> Outcome
+    ensures { λ r. ⌜ Obeys (told height) (obey command a) port (lent (now (framebuffer .entry)) (now (framebuffer .exit))) (lent (now (store .entry)) (now (store .exit))) (lent (now (panel .entry)) (now (panel .exit))) r ⌝ }
+{
+    match command {
+        Command::Unknown => refused(port, UNKNOWN_COMMAND),
+        Command::Clear => drawing::clear(framebuffer, port),
+        Command::Home => text::home(port),
+        Command::SetPoint => text::set_point(port, a[0], a[1]),
+        Command::SetPlace => text::set_place(store, port, height, a[0], a[1]),
+        Command::WrapOn => text::set_wrap(port, true),
+        Command::WrapOff => text::set_wrap(port, false),
+        Command::ScrollOn => text::set_scroll(port, true),
+        Command::ScrollOff => text::set_scroll(port, false),
+        Command::ChooseFont => text::choose_font(store, port, height, a[0]),
+        Command::SetMetrics => text::set_metrics(port, a[0], a[1], a[2], a[3], a[4]),
+        Command::SetColour => drawing::set_colour(port, a[0]),
+        Command::DrawPixel => drawing::draw_pixel(framebuffer, port, a[0], a[1]),
+        Command::DrawLine => drawing::draw_line(framebuffer, port, a[0], a[1], a[2], a[3]),
+        Command::ContinueLine => {
+            let from = port.drawing;
+            drawing::draw_line(framebuffer, port, from.x, from.y, a[0], a[1])
+        }
+        Command::DrawFrame => drawing::draw_frame(framebuffer, port, a[0], a[1], a[2], a[3], a[4]),
+        Command::FillRectangle => {
+            drawing::fill_rectangle(framebuffer, port, a[0], a[1], a[2], a[3], a[4])
+        }
+        Command::SetUpBar => {
+            graphs::set_up_bar(panel, port, height, a[0], a[1], a[2], a[3], a[4], a[5])
+        }
+        Command::WriteBar => graphs::write_bar(framebuffer, panel, port, a[0], a[1]),
+        Command::SetUpStrip => graphs::set_up_strip(
+            panel,
+            port,
+            height,
+            a[0],
+            a[1],
+            a[2],
+            a[3],
+            a[4],
+        ),
+        Command::ShiftStrip => graphs::shift_strip(framebuffer, panel, port, a[0]),
+        Command::ShowBitmap => pictures::show_bitmap(framebuffer, store, port, a[0], a[1], a[2]),
+        Command::DrawInline => pictures::begin_inline(port, a[0], a[1], a[2], a[3]),
+        Command::UploadFont => {
+            storage::begin_upload(store, port, FONT, a[0], size_of(a[1], a[2]))
+        }
+        Command::UploadBitmap => {
+            storage::begin_upload(store, port, BITMAP, a[0], size_of(a[1], a[2]))
+        }
+        Command::DeleteFile => storage::delete_file(store, port, a[0], a[1]),
+        Command::Purge => storage::purge(store, port, height, a[0], a[1]),
+        Command::FlowOn => settings::flow_on(port, a[0], a[1]),
+        Command::FlowOff => settings::flow_off(port),
+        Command::SetContrast => settings::set_contrast(panel, port, a[0]),
+        Command::BacklightOn => settings::backlight_on(panel, port, a[0]),
+        Command::BacklightOff => settings::backlight_off(panel, port),
+        Command::SetSerial => settings::set_serial(panel, port, a[0], a[1]),
+    }
+}
