@@ -1,7 +1,7 @@
 -- The marked examples hold, all of them: one claim.
 -- Assumes nothing.
 use mathlib.Core.Path.{_≡_, _∙_, refl, sym, ap, subst}
-use mathlib.Core.Bool.{Bool, true, false, cond, Bool·beq}
+use mathlib.Core.Bool.{Bool, true, false, cond, _||_, Bool·beq}
 use mathlib.Core.List.{List, [], _∷_}
 use native.Mathlib.Omega.{arith}
 use Prim.Native.Nat.{ℕ, _%_}
@@ -92,6 +92,20 @@ layer s p {g = g} {q = q} k =
       at = λ x y hx hy. pixel-put s p g x y (hx, omega (arith, k .size)) ∙ ap (cond (s x y) (p x y)) (k .at x y hx hy);
     }
 
+-- the same picture in other words
+worded : {h : ℕ} {g : List ℕ} {p : Picture} (q : Picture) → Shows h g p → ((x y : ℕ) → p x y ≡ q x y) → Shows h g q
+worded q k f = record { size = k .size; at = λ x y hx hy. k .at x y hx hy ∙ f x y }
+
+black-there : (a : Bool) → cond a true false ≡ a
+black-there true = refl
+black-there false = refl
+
+black-at-both : (a b : Bool) → cond b true (cond a true false) ≡ (a || b)
+black-at-both true true = refl
+black-at-both true false = refl
+black-at-both false true = refl
+black-at-both false false = refl
+
 abbrev alike : Picture → Picture → Bool
 alike p q = all width (λ x. all tallHeight (λ y. Bool·beq (p x y) (q x y)))
 
@@ -124,7 +138,7 @@ corner-bytes h e =
 corner-pixels : (h : ℕ) → isHeight h ≡ true → Holds h cornerPixels
 unfolding run said taken step replies after byPhase alone code argument obey commandOf decodeOf portOf phaseOf encodeOf portBytes phaseBytes panelBytes manyBytes within drawPixel
 corner-pixels h e =
-    holds h e cornerPixels (record { answered = refl; consumed = refl; shows = exactly e _ (layer (point 239 63) (plain true) (layer (point 0 0) (plain true) white-shows)) refl; has = corner-bytes h e; replies = refl; refused = refl; reason = refl; flows = refl })
+    holds h e cornerPixels (record { answered = refl; consumed = refl; shows = worded (cornerPixels .black) (layer (point 239 63) (plain true) (layer (point 0 0) (plain true) white-shows)) (λ x y. black-at-both (point 0 0 x y) (point 239 63 x y)); has = corner-bytes h e; replies = refl; refused = refl; reason = refl; flows = refl })
 
 pixel-out-of-bounds : (h : ℕ) → isHeight h ≡ true → Holds h pixelOutOfBounds
 unfolding run said taken step replies after byPhase alone code argument obey commandOf decodeOf portOf phaseOf encodeOf portBytes phaseBytes panelBytes manyBytes within drawPixel
@@ -134,45 +148,61 @@ pixel-out-of-bounds h e =
 line-down : (h : ℕ) → isHeight h ≡ true → Holds h lineDown
 unfolding run said taken step replies after byPhase alone code argument obey commandOf decodeOf portOf phaseOf encodeOf portBytes phaseBytes panelBytes manyBytes within drawLine some towards rise lineX lineY
 line-down h e =
-    holds h e lineDown (record { answered = refl; consumed = refl; shows = exactly e _ (layer (line 0 0 2 1) (plain true) white-shows) refl; has = tt; replies = refl; refused = refl; reason = refl; flows = refl })
+    holds h e lineDown (record { answered = refl; consumed = refl; shows = worded (lineDown .black) (layer (line 0 0 2 1) (plain true) white-shows) (λ x y. black-there (line 0 0 2 1 x y)); has = tt; replies = refl; refused = refl; reason = refl; flows = refl })
 
 line-back : (h : ℕ) → isHeight h ≡ true → Holds h lineBack
 unfolding run said taken step replies after byPhase alone code argument obey commandOf decodeOf portOf phaseOf encodeOf portBytes phaseBytes panelBytes manyBytes within drawLine some towards rise lineX lineY
 line-back h e =
-    holds h e lineBack (record { answered = refl; consumed = refl; shows = exactly e _ (layer (line 2 1 0 0) (plain true) white-shows) refl; has = tt; replies = refl; refused = refl; reason = refl; flows = refl })
+    holds h e lineBack (record { answered = refl; consumed = refl; shows = worded (lineBack .black) (layer (line 2 1 0 0) (plain true) white-shows) (λ x y. black-there (line 2 1 0 0 x y)); has = tt; replies = refl; refused = refl; reason = refl; flows = refl })
 
 one-pixel : (h : ℕ) → isHeight h ≡ true → Holds h onePixel
 unfolding run said taken step replies after byPhase alone code argument obey commandOf decodeOf portOf phaseOf encodeOf portBytes phaseBytes panelBytes manyBytes within drawLine some towards rise lineX lineY
 one-pixel h e =
     holds h e onePixel (record { answered = refl; consumed = refl; shows = exactly e _ (layer (line 7 7 7 7) (plain true) white-shows) refl; has = tt; replies = refl; refused = refl; reason = refl; flows = refl })
 
+bottom-black : {h : ℕ} → isHeight h ≡ true → Shows h (put (stripe (barOf 0 10 10 12 19 0) 0 10) (plain true) (white h)) (barFromBottom .black)
+unfolding within depth stripe
+bottom-black e = exactly e _ (layer (stripe (barOf 0 10 10 12 19 0) 0 10) (plain true) white-shows) refl
+
 bar-from-bottom : (h : ℕ) → isHeight h ≡ true → Holds h barFromBottom
 unfolding run said taken step replies after byPhase alone code argument obey commandOf decodeOf portOf phaseOf encodeOf portBytes phaseBytes panelBytes manyBytes within setUpBar writeBar depth lengthOf heldTo stripe writeOf
 bar-from-bottom h e =
     at-heights (λ (n : ℕ). Holds n barFromBottom)
-    (holds lowHeight low barFromBottom (record { answered = refl; consumed = refl; shows = exactly low _ (layer (stripe (barOf 0 10 10 12 19 0) 0 10) (plain true) white-shows) refl; has = tt; replies = refl; refused = refl; reason = refl; flows = refl }))
-    (holds tallHeight tall barFromBottom (record { answered = refl; consumed = refl; shows = exactly tall _ (layer (stripe (barOf 0 10 10 12 19 0) 0 10) (plain true) white-shows) refl; has = tt; replies = refl; refused = refl; reason = refl; flows = refl })) h e
+    (holds lowHeight low barFromBottom (record { answered = refl; consumed = refl; shows = bottom-black low; has = tt; replies = refl; refused = refl; reason = refl; flows = refl }))
+    (holds tallHeight tall barFromBottom (record { answered = refl; consumed = refl; shows = bottom-black tall; has = tt; replies = refl; refused = refl; reason = refl; flows = refl })) h e
+
+left-black : {h : ℕ} → isHeight h ≡ true → Shows h (put (stripe (barOf 1 0 0 9 1 0) 0 3) (plain true) (put (rectangle 0 0 9 1) (plain false) (white h))) (barFromLeft .black)
+unfolding within depth stripe
+left-black e = exactly e _ (layer (stripe (barOf 1 0 0 9 1 0) 0 3) (plain true) (layer (rectangle 0 0 9 1) (plain false) white-shows)) refl
 
 bar-from-left : (h : ℕ) → isHeight h ≡ true → Holds h barFromLeft
 unfolding run said taken step replies after byPhase alone code argument obey commandOf decodeOf portOf phaseOf encodeOf portBytes phaseBytes panelBytes manyBytes within setUpBar writeBar depth lengthOf heldTo stripe writeOf
 bar-from-left h e =
     at-heights (λ (n : ℕ). Holds n barFromLeft)
-    (holds lowHeight low barFromLeft (record { answered = refl; consumed = refl; shows = exactly low _ (layer (stripe (barOf 1 0 0 9 1 0) 0 3) (plain true) (layer (rectangle 0 0 9 1) (plain false) white-shows)) refl; has = tt; replies = refl; refused = refl; reason = refl; flows = refl }))
-    (holds tallHeight tall barFromLeft (record { answered = refl; consumed = refl; shows = exactly tall _ (layer (stripe (barOf 1 0 0 9 1 0) 0 3) (plain true) (layer (rectangle 0 0 9 1) (plain false) white-shows)) refl; has = tt; replies = refl; refused = refl; reason = refl; flows = refl })) h e
+    (holds lowHeight low barFromLeft (record { answered = refl; consumed = refl; shows = left-black low; has = tt; replies = refl; refused = refl; reason = refl; flows = refl }))
+    (holds tallHeight tall barFromLeft (record { answered = refl; consumed = refl; shows = left-black tall; has = tt; replies = refl; refused = refl; reason = refl; flows = refl })) h e
+
+right-black : {h : ℕ} → isHeight h ≡ true → Shows h (put (stripe (barOf 3 0 0 9 1 0) 0 3) (plain true) (put (rectangle 0 0 9 1) (plain false) (white h))) (barFromRight .black)
+unfolding within depth stripe
+right-black e = exactly e _ (layer (stripe (barOf 3 0 0 9 1 0) 0 3) (plain true) (layer (rectangle 0 0 9 1) (plain false) white-shows)) refl
 
 bar-from-right : (h : ℕ) → isHeight h ≡ true → Holds h barFromRight
 unfolding run said taken step replies after byPhase alone code argument obey commandOf decodeOf portOf phaseOf encodeOf portBytes phaseBytes panelBytes manyBytes within setUpBar writeBar depth lengthOf heldTo stripe writeOf
 bar-from-right h e =
     at-heights (λ (n : ℕ). Holds n barFromRight)
-    (holds lowHeight low barFromRight (record { answered = refl; consumed = refl; shows = exactly low _ (layer (stripe (barOf 3 0 0 9 1 0) 0 3) (plain true) (layer (rectangle 0 0 9 1) (plain false) white-shows)) refl; has = tt; replies = refl; refused = refl; reason = refl; flows = refl }))
-    (holds tallHeight tall barFromRight (record { answered = refl; consumed = refl; shows = exactly tall _ (layer (stripe (barOf 3 0 0 9 1 0) 0 3) (plain true) (layer (rectangle 0 0 9 1) (plain false) white-shows)) refl; has = tt; replies = refl; refused = refl; reason = refl; flows = refl })) h e
+    (holds lowHeight low barFromRight (record { answered = refl; consumed = refl; shows = right-black low; has = tt; replies = refl; refused = refl; reason = refl; flows = refl }))
+    (holds tallHeight tall barFromRight (record { answered = refl; consumed = refl; shows = right-black tall; has = tt; replies = refl; refused = refl; reason = refl; flows = refl })) h e
+
+letter-black : {h : ℕ} → isHeight h ≡ true → Shows h (put (box 0 3 0 5) (packed 0 0 3 (233 ∷ 36 ∷ [])) (white h)) (letterT .black)
+unfolding within bitOf packedBit packed
+letter-black e = exactly e _ (layer (box 0 3 0 5) (packed 0 0 3 (233 ∷ 36 ∷ [])) white-shows) refl
 
 letter-t : (h : ℕ) → isHeight h ≡ true → Holds h letterT
 unfolding run said taken step replies after byPhase alone code argument obey commandOf decodeOf portOf phaseOf encodeOf portBytes phaseBytes panelBytes manyBytes within beginUpload uploadData appended recordBytes directory.entriesFrom directory.readFrom directory.stepAt directory.entryAt directory.lengthOf directory.hasFile directory.findIn directory.bytesIn directory.sizesIn fontChosen chooseFont openFont openedAt isFont areEntries isEntry offsetAt widthAt between packedBytes character characterIn drawnBy drawnOn drawnAt glyphOf glyphIn wrapped fitted bitOf packedBit packed
 letter-t h e =
     at-heights (λ (n : ℕ). Holds n letterT)
-    (holds lowHeight low letterT (record { answered = refl; consumed = refl; shows = exactly low _ (layer (box 0 3 0 5) (packed 0 0 3 (233 ∷ 36 ∷ [])) white-shows) refl; has = tt; replies = refl; refused = refl; reason = refl; flows = refl }))
-    (holds tallHeight tall letterT (record { answered = refl; consumed = refl; shows = exactly tall _ (layer (box 0 3 0 5) (packed 0 0 3 (233 ∷ 36 ∷ [])) white-shows) refl; has = tt; replies = refl; refused = refl; reason = refl; flows = refl })) h e
+    (holds lowHeight low letterT (record { answered = refl; consumed = refl; shows = letter-black low; has = tt; replies = refl; refused = refl; reason = refl; flows = refl }))
+    (holds tallHeight tall letterT (record { answered = refl; consumed = refl; shows = letter-black tall; has = tt; replies = refl; refused = refl; reason = refl; flows = refl })) h e
 
 saved-picture : (h : ℕ) → isHeight h ≡ true → Holds h savedPicture
 unfolding run said taken step replies after byPhase alone code argument obey commandOf decodeOf portOf phaseOf encodeOf portBytes phaseBytes panelBytes manyBytes within beginUpload uploadData appended recordBytes directory.entriesFrom directory.readFrom directory.stepAt directory.entryAt directory.lengthOf directory.hasFile directory.findIn directory.bytesIn directory.sizesIn bitmapIn bitmapAt showBitmap isBitmap packedBytes bitOf packedBit packed
