@@ -1,5 +1,5 @@
--- Characters that a font lacks, by worked examples, on a framebuffer of 8 rows. Font 1 is 5 by 7 and has 32 to 126; font 2 has 65 and 66, 3 and 4 wide, and
--- a nominal width of 3; font 3 has 9 and 10, 2 wide, and a nominal width of 6; font 4 is malformed, and there is no font 5.
+-- Characters that a font lacks, by worked examples, on a framebuffer of 8 rows. Font 1 is 5 by 7 and has 32 to 126; font 2 is malformed, and there is no
+-- font 3.
 -- Assumes nothing.
 use mathlib.Core.Path.{_≡_, refl}
 use mathlib.Core.Bool.{false}
@@ -18,14 +18,14 @@ use Rattle.opened_font.specs.Glyphs.{glyphOf, glyphIn}
 use Rattle.builtin_font.specs.Table.{table}
 use Rattle.state.specs.State.{startState}
 use Rattle.rules.specs.World.{World, world, port, withFramebuffer, putText, refused}
-use Rattle.rules.specs.Fonts.{openFont, openedAt}
+use Rattle.rules.specs.Fonts.{opened, openFont, openedAt}
 use Rattle.rules.specs.Text.{atPoint, withFont, withWrap, withScroll, wrapped, fitted, missing, drawnBy, drawnAt, drawnOn, characterIn, character}
 use Rattle.rules.specs.Step.{after}
 
 abbrev held : World
 held =
     world (replicate 240 0)
-    (1 ∷ 2 ∷ 15 ∷ 0 ∷ 1 ∷ 3 ∷ 11 ∷ 0 ∷ 1 ∷ 4 ∷ 3 ∷ 0 ∷ (replicate 244 0 ++ (small ++ (6 ∷ 2 ∷ 9 ∷ 10 ∷ 0 ∷ 10 ∷ 2 ∷ 0 ∷ 10 ∷ 2 ∷ 144 ∷ 1 ∷ 1 ∷ 65 ∷ replicate 739 0)))) (startState 8)
+    (1 ∷ 2 ∷ 3 ∷ 0 ∷ (replicate 252 0 ++ (1 ∷ 1 ∷ 65 ∷ replicate 765 0))) (startState 8)
 
 -- with font n at (x, y)
 abbrev at : ℕ → ℕ → ℕ → World
@@ -61,14 +61,25 @@ pub ignores : (shown (at 1 0 0) 13 ≡ at 1 0 0) × (shown (at 1 0 0) 10 ≡ at 
 unfolding character characterIn missing drawnBy drawnOn drawnAt glyphOf glyphIn wrapped fitted openFont after table
 ignores = (refl, refl, refl, refl)
 
+-- characters 9 and 10, 2 high and 2 wide, with a nominal width of 6
+abbrev wide : List ℕ
+wide = 6 ∷ 2 ∷ 9 ∷ 10 ∷ 0 ∷ 10 ∷ 2 ∷ 0 ∷ 10 ∷ 2 ∷ 144 ∷ []
+
+-- what a character of a font's file leaves at home
+abbrev shownIn : List ℕ → ℕ → World
+shownIn f c = after (at 1 0 0) (characterIn (at 1 0 0) c (opened f))
+
+abbrev columnIn : List ℕ → ℕ → ℕ
+columnIn f c = port (shownIn f c) .text .x
+
 -- the nominal width, and not that of the font's glyphs; a font that has 10 shows it, and lacks 13 and 8
-pub fonts : (column (at 2 0 0) 66 ≡ 4) × (column (at 2 0 0) 67 ≡ 3) × (column (at 2 0 0) 64 ≡ 3) × (column (at 3 0 0) 9 ≡ 2) × (column (at 3 0 0) 11 ≡ 6)
-    × (column (at 3 0 0) 10 ≡ 2) × (shown (at 3 0 0) 13 ≡ at 3 0 0) × (shown (at 3 0 0) 8 ≡ at 3 0 0)
-unfolding character characterIn missing drawnBy drawnOn drawnAt glyphOf glyphIn wrapped fitted openFont openedAt isFont areEntries isEntry offsetAt widthAt between packedBytes after readFrom entriesFrom entryAt stepAt directory.lengthOf sizesIn findIn
+pub fonts : (columnIn small 66 ≡ 4) × (columnIn small 67 ≡ 3) × (columnIn small 64 ≡ 3) × (columnIn wide 9 ≡ 2) × (columnIn wide 11 ≡ 6) × (columnIn wide 10 ≡ 2)
+    × (shownIn wide 13 ≡ at 1 0 0) × (shownIn wide 8 ≡ at 1 0 0)
+unfolding characterIn missing drawnBy drawnOn drawnAt glyphOf glyphIn wrapped fitted offsetAt widthAt after
 fonts = (refl, refl, refl, refl, refl, refl, refl, refl)
 
 -- no font, or none that is well formed, lacks anything
-pub font-first : (character (at 4 0 0) 13 ≡ refused 23 []) × (character (at 4 0 0) 200 ≡ refused 23 []) × (character (at 5 0 0) 10 ≡ refused 22 []) × (character (at 5 0 0) 8 ≡ refused 22 [])
+pub font-first : (character (at 2 0 0) 13 ≡ refused 23 []) × (character (at 2 0 0) 200 ≡ refused 23 []) × (character (at 3 0 0) 10 ≡ refused 22 []) × (character (at 3 0 0) 8 ≡ refused 22 [])
 unfolding character characterIn openFont openedAt isFont areEntries isEntry offsetAt widthAt between packedBytes readFrom entriesFrom entryAt stepAt directory.lengthOf sizesIn findIn
 font-first = (refl, refl, refl, refl)
 
