@@ -1,5 +1,8 @@
 //! Makes checks that run as tests and can also be run by the mutation check.
 
+use crate::board::Board;
+use crate::builtin::built_in_font;
+
 /// Each check becomes a public function, a test, and an entry of `ALL`.
 #[macro_export]
 macro_rules! checks {
@@ -13,6 +16,18 @@ macro_rules! checks {
             $(#[test] fn $name() { super::$name() })*
         }
     };
+}
+
+/// Just started, with the smallest store.
+pub fn board(height: u8) -> Board {
+    Board::fresh(&built_in_font(), height, vec![0; 1024])
+}
+
+/// The same after a stream.
+pub fn after(height: u8, stream: &[u8]) -> Board {
+    let mut board = board(height);
+    assert_eq!(board.feed(stream, 2 * stream.len()).answer, 0);
+    board
 }
 
 /// The checks of all subjects, by subject and name.

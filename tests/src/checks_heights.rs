@@ -1,17 +1,13 @@
 //! The height in the record: what feed, arrive and take answer to it, and before what else.
 
 use crate::board::Board;
-use crate::builtin::built_in_font;
+use crate::checks::board;
 use crate::feed::feed;
 use crate::glass::{glass_bytes, Glass, HEIGHTS, LOW, TALL};
 use crate::listing::height_asked;
 use crate::queue::{arrive, take};
 use crate::state::{Bar, Lent};
 use std::ffi::OsStr;
-
-fn board(height: u8) -> Board {
-    Board::fresh(&built_in_font(), height, vec![0; 1024])
-}
 
 /// Feeds and wants a refusal that changes nothing.
 fn refused(board: &Board, answer: u8) {

@@ -2,20 +2,10 @@
 
 use crate::board::Board;
 use crate::book::Book;
-use crate::builtin::built_in_font;
 use crate::case_file::upload;
+use crate::checks::{after, board};
 use crate::glass::{HEIGHTS, LOW, TALL};
 use crate::missing::IGNORED;
-
-fn board(height: u8) -> Board {
-    Board::fresh(&built_in_font(), height, vec![0; 1024])
-}
-
-fn after(height: u8, stream: &[u8]) -> Board {
-    let mut board = board(height);
-    assert_eq!(board.feed(stream, 2 * stream.len()).answer, 0);
-    board
-}
 
 /// Feeds one byte and wants this refusal and no other change.
 fn refused(board: &Board, byte: u8, refusal: u8) {

@@ -1,7 +1,7 @@
 //! Start: its answers in order, and what it leaves, for both heights.
 
 use crate::board::Board;
-use crate::builtin::built_in_font;
+use crate::checks::board;
 use crate::feed::start;
 use crate::glass::{glass_bytes, Glass, HEIGHTS, LOW, TALL};
 use crate::queue::Queue;
@@ -12,10 +12,6 @@ pub const UNKNOWN: [u32; 22] = [
     0, 1, 32, 63, 65, 100, 127, 129, 192, 255, 256, 320, 384, 1920, 3840, 65536 + 64, 65536 + 128, 1 << 31, (1 << 24) + 64,
     u32::MAX - 127, u32::MAX - 63, u32::MAX,
 ];
-
-fn board(height: u8) -> Board {
-    Board::fresh(&built_in_font(), height, vec![0; 1024])
-}
 
 /// Starts with both records and wants this refusal, with nothing changed.
 fn refused(board: &Board, height: u32, answer: u8) {

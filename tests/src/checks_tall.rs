@@ -1,19 +1,8 @@
 //! What 128 rows change: the last byte, the purge, the fonts that may be used, the rows that move.
 
-use crate::board::Board;
-use crate::builtin::built_in_font;
 use crate::case_file::upload;
+use crate::checks::{after, board};
 use crate::glass::{Glass, HEIGHTS, LOW, TALL};
-
-fn board(height: u8) -> Board {
-    Board::fresh(&built_in_font(), height, vec![0; 1024])
-}
-
-fn after(height: u8, stream: &[u8]) -> Board {
-    let mut board = board(height);
-    assert_eq!(board.feed(stream, 2 * stream.len()).answer, 0);
-    board
-}
 
 /// A font of one black column: character 65 only.
 fn column(rows: u8) -> Vec<u8> {
