@@ -49,12 +49,11 @@ static bool find_place(const Plain *p, unsigned width, unsigned height, unsigned
 
 static void take_character(Plain *p, uint8_t character)
 {
-    const uint8_t *entry = p->font + 4 + 3 * (character - p->font[2]);
     bool missing = character < p->font[2] || character > p->font[3];
-    unsigned x, y, up, width, height = p->font[1];
+    const uint8_t *entry = missing ? NULL : p->font + 4 + 3 * (character - p->font[2]);
+    unsigned x, y, up, width = missing ? p->font[0] : entry[2], height = p->font[1];
     if (missing && (character == '\r' || character == '\n' || character == '\b'))
         return;
-    width = missing ? p->font[0] : entry[2];
     if (!find_place(p, width, height, &x, &y, &up)) {
         plain_refuse(p, DISPLAY_REFUSED_GLYPH_DOES_NOT_FIT);
         return;

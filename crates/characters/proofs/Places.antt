@@ -20,7 +20,8 @@ use Rattle.scroll.specs.Scroll.{scrolled}
 use Rattle.fonts.specs.Fonts.{nominalWidth, heightOf}
 use Rattle.opened_font.specs.declared.Glyph.{Glyph}
 use Rattle.opened_font.specs.declared.Glyph.the-variants.{At as GlyphAt, Missing}
-use Rattle.opened_font.specs.Glyphs.{glyphIn, glyphOf}
+use Rattle.opened_font.specs.Glyphs.{glyphOf}
+use Rattle.opened_font.proofs.Laws.{glyph-missing}
 use Rattle.builtin_font.specs.Table.{table}
 use Rattle.builtin_font.specs.Shapes.{fiveFrom, rowsOf}
 use Rattle.builtin_font.proofs.Rules.{width-is, height-is, first-is, last-is, glyph-of}
@@ -201,8 +202,7 @@ five-glyph w o nowhere = refl
 
 module _ (w : World) (b : ℕ) where
   no-glyph : (leb 32 b && leb b 126) ≡ false → glyphOf table b ≡ Missing
-  unfolding glyphOf glyphIn
-  no-glyph e = rw (first-is, last-is, e)
+  no-glyph e = glyph-missing table b (rw (first-is, last-is) e)
 
   pub built-in-lacked : (t : Bool) → t ≡ (leb 32 b && leb b 126) → t ≡ false → characterIn w b (opened table) ≡ drawnOn w (missing b 5 7)
   built-in-lacked t f e = draw-lacked w b table (glyphOf table b) refl 5 7 (no-glyph (sym f ∙ e)) (sym width-is) (sym height-is)

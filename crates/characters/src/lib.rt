@@ -227,6 +227,7 @@ fn draw_in(framebuffer: &mut [u8], port: Port, height: u8, file: &[u8], byte: u8
     draw_glyph(framebuffer, port, height, width, tall, rest(file, offset))
 }
 
+// Whether the built-in font has a character.
 fn is_built_in(byte: u8) -> bool
     ensures { λ r. ⌜ r ≡ (leb 32 byte && leb byte 126) ⌝ }
 {

@@ -6,7 +6,7 @@ use mathlib.Core.Bool.{Bool, true, false, cond, _&&_}
 use Prim.Native.Nat.{ℕ, _-_, _≤_, _<_}
 use native.Mathlib.Omega.{arith}
 use lib.Dec.{leb}
-use borrow.Author.Tests.{le-leb, lt-leb, leb-true}
+use borrow.Author.Tests.{le-leb, leb-true}
 use Rattle.fonts.specs.Fonts.{heightOf, firstOf, lastOf, offsetAt, widthAt, isFont}
 use Rattle.fonts.proofs.Laws.{and-left, and-right, Within, Inside, font}
 use Rattle.opened_font.specs.declared.Glyph.the-variants.{At, Missing}
@@ -17,17 +17,9 @@ pub glyph-there : (s : List ℕ) (c : ℕ) → firstOf s ≤ c → c ≤ lastOf 
 unfolding glyphOf glyphIn
 glyph-there s c h k = rw (le-leb (firstOf s) c h, le-leb c (lastOf s) k)
 
-pub glyph-before : (s : List ℕ) (c : ℕ) → c < firstOf s → glyphOf s c ≡ Missing
+pub glyph-missing : (s : List ℕ) (c : ℕ) → (leb (firstOf s) c && leb c (lastOf s)) ≡ false → glyphOf s c ≡ Missing
 unfolding glyphOf glyphIn
-glyph-before s c h = rw (lt-leb (firstOf s) c h)
-
-pub glyph-behind : (s : List ℕ) (c : ℕ) → lastOf s < c → glyphOf s c ≡ Missing
-unfolding glyphOf glyphIn
-glyph-behind s c h = rw (lt-leb c (lastOf s) h) (either (leb (firstOf s) c))
-  where
-    either : (b : Bool) → cond (b && false) (At (offsetAt s (c - firstOf s)) (widthAt s (c - firstOf s)) (heightOf s)) Missing ≡ Missing
-    either true = refl
-    either false = refl
+glyph-missing s c e = rw e
 
 pub record Character (s : List ℕ) (c o w h : ℕ) : Type 0 where
   pub among : Within (firstOf s) (lastOf s) c

@@ -15,7 +15,8 @@ use Rattle.scroll.proofs.Footprint.{scroll-footprint}
 use Rattle.refusals.specs.Refusals.{noGlyph, glyphDoesNotFit, Given}
 use Rattle.fonts.specs.Fonts.{nominalWidth, heightOf, firstOf, lastOf}
 use Rattle.opened_font.specs.declared.Glyph.the-variants.{Missing}
-use Rattle.opened_font.specs.Glyphs.{glyphIn, glyphOf}
+use Rattle.opened_font.specs.Glyphs.{glyphOf}
+use Rattle.opened_font.proofs.Laws.{glyph-missing}
 use Rattle.bar_ledger.specs.Ledger.{quiet, painted}
 use Rattle.state.specs.declared.Phase.{Phase}
 use Rattle.state.specs.declared.Phase.the-variants.{Idle}
@@ -61,8 +62,7 @@ pub record Boxed (w : World) (c : ℕ) (f : List ℕ) (x y up : ℕ) : Type 0 wh
 
 module _ (w : World) (c : ℕ) (f : List ℕ) (l : Lacking w c f) where
   no-glyph : glyphOf f c ≡ Missing
-  unfolding glyphOf glyphIn
-  no-glyph = rw (l .lacks)
+  no-glyph = glyph-missing f c (l .lacks)
 
   alone-is : alone w c ≡ drawnOn w (drawnBy f c Missing)
   unfolding alone character characterIn

@@ -1,9 +1,11 @@
 -- The rules of text, each way by itself.
 -- Assumes nothing.
-use mathlib.Core.Path.{_≡_, _∙_, refl, sym}
+use mathlib.Core.Path.{_≡_, _∙_, refl, sym, ap}
+use mathlib.Core.Bool.{Bool, true, false, cond}
 use mathlib.Core.List.{List, []}
 use native.Mathlib.Nat.{mul-le-mul}
 use Prim.Native.Nat.{ℕ, _+_, _-_, _*_, _<_, _≤_}
+use lib.Dec.{eqb}
 use lib.ListN.{take, drop}
 use borrow.Author.Tests.{eq-eqb, ne-eqb, le-leb, lt-leb}
 use Rattle.pixels.specs.Framebuffer.{width}
@@ -22,42 +24,64 @@ use Rattle.rules.specs.Fonts.{opened, shut, openedAt, openFont}
 use Rattle.text.specs.declared.Source.{Source}
 use Rattle.text.specs.declared.Source.the-variants.{BuiltIn, Stored, Refused}
 use Rattle.text.specs.Places.{pixelBy, placeBy}
-use Rattle.text.specs.Sources.{openedBy}
+use Rattle.text.specs.Sources.{sourceAt, sourceOf, openedBy}
 use Rattle.rules.specs.Text.{withFont, atPoint, fontChosen, chooseFont, placeIn, setPlace}
 
 -- ---- where the font of a number lies
 
+found-there : (h : ℕ) (s : List ℕ) (f : Found) → openedBy s (sourceAt h f s) ≡ openedAt h f s
+unfolding sourceAt openedAt openedBy
+found-there h s Nothing = refl
+found-there h s (At p a z) = by-cases (isFont h (take z (drop a s)))
+  where
+    by-cases : (t : Bool) → openedBy s (cond t (Stored a z) (Refused 23)) ≡ cond t (opened (take z (drop a s))) (shut 23)
+    by-cases true = refl
+    by-cases false = refl
+
+-- and the font that lies there
 module _ (h : ℕ) (s : List ℕ) (n : ℕ) where
-  pub source-built-in : n ≡ 1 → openedBy s BuiltIn ≡ openFont h s n
-  unfolding openFont openedBy
+  lies-by : (t : Bool) → openedBy s (cond t BuiltIn (sourceAt h (findOf s 1 n) s)) ≡ cond t (opened table) (openedAt h (findOf s 1 n) s)
+  unfolding openedBy
+  lies-by true = refl
+  lies-by false = found-there h s (findOf s 1 n)
+
+  lies-there : openedBy s (sourceOf h s n) ≡ openFont h s n
+  unfolding sourceOf openFont
+  lies-there = lies-by (eqb n 1)
+
+  pub source-built-in : n ≡ 1 → BuiltIn ≡ sourceOf h s n
+  unfolding sourceOf
   source-built-in e = rw (eq-eqb n 1 e)
 
   module _ (f : Found) (other : n ≡ 1 → ⊥) (lookup : f ≡ findOf s 1 n) where
-    pub source-22 : f ≡ Nothing → openedBy s (Refused 22) ≡ openFont h s n
-    unfolding openFont openedAt openedBy
+    pub source-22 : f ≡ Nothing → Refused 22 ≡ sourceOf h s n
+    unfolding sourceOf sourceAt
     source-22 e = rw (ne-eqb n 1 other, ← lookup, e)
 
     module _ (p a z : ℕ) (l : List ℕ) (c : Check) (there : f ≡ At p a z) (lent : l ≡ take z (drop a s)) (checked : c ≡ checkOf (isFont h l)) where
-      pub source-23 : c ≡ Malformed → openedBy s (Refused 23) ≡ openFont h s n
-      unfolding openFont openedAt openedBy
+      pub source-23 : c ≡ Malformed → Refused 23 ≡ sourceOf h s n
+      unfolding sourceOf sourceAt
       source-23 e = rw (ne-eqb n 1 other, ← lookup, there, ← lent, malformed-is c (isFont h l) checked e)
 
-      pub source-stored : c ≡ Good → openedBy s (Stored a z) ≡ openFont h s n
-      unfolding openFont openedAt openedBy
+      pub source-stored : c ≡ Good → Stored a z ≡ sourceOf h s n
+      unfolding sourceOf sourceAt
       source-stored e = rw (ne-eqb n 1 other, ← lookup, there, ← lent, good-is c (isFont h l) checked e)
 
-  module _ (c : Source) (sought : openedBy s c ≡ openFont h s n) where
+  module _ (c : Source) (sought : c ≡ sourceOf h s n) where
+    opened-there : openedBy s c ≡ openFont h s n
+    opened-there = ap (openedBy s) sought ∙ lies-there
+
     pub from-built-in : (l : List ℕ) → c ≡ BuiltIn → l ≡ table → openFont h s n ≡ opened l
     unfolding openedBy
-    from-built-in l e d = sym sought ∙ rw (e, d)
+    from-built-in l e d = sym opened-there ∙ rw (e, d)
 
     pub from-stored : (a z : ℕ) (l : List ℕ) → c ≡ Stored a z → l ≡ take z (drop a s) → openFont h s n ≡ opened l
     unfolding openedBy
-    from-stored a z l e d = sym sought ∙ rw (e, d)
+    from-stored a z l e d = sym opened-there ∙ rw (e, d)
 
     pub from-refused : (k : ℕ) → c ≡ Refused k → openFont h s n ≡ shut k
     unfolding openedBy
-    from-refused k e = sym sought ∙ rw e
+    from-refused k e = sym opened-there ∙ rw e
 
 -- ---- choosing it
 

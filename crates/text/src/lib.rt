@@ -21,10 +21,9 @@ ghost use mathlib.Core.List.{[], _∷_};
 ghost use Prim.Native.Nat.{_+_, _*_, _-_, _<_, _≤_};
 ghost use Rattle.rules.specs.World.{putText, quietly};
 ghost use Rattle.rules.specs.Text.{atPoint, home, withWrap, withScroll, withMetrics, chooseFont, setPlace};
-ghost use Rattle.rules.specs.Fonts.{openFont};
 ghost use Rattle.outcome.specs.Contract.{unlent, lent, untold, told, Obeys};
 ghost use Rattle.text.specs.Places.{placeBy};
-ghost use Rattle.text.specs.Sources.{openedBy};
+ghost use Rattle.text.specs.Sources.{sourceOf};
 
 // Where a font lies.
 pub enum Source {
@@ -108,7 +107,7 @@ pub fn set_metrics(
 
 // Where the font of a number lies, or the number of its refusal. One in the store is checked whole.
 pub fn find_font(store: &[u8], height: u8, number: u8) -> Source
-    ensures { λ r. ⌜ openedBy (now (store .entry)) r ≡ openFont height (now (store .entry)) number ⌝ }
+    ensures { λ r. ⌜ r ≡ sourceOf height (now (store .entry)) number ⌝ }
 {
     if number == BUILT_IN_FONT {
         return Source::BuiltIn;
