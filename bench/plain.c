@@ -78,7 +78,7 @@ static void line_to(Plain *p, uint8_t x1, uint8_t y1, uint8_t x2, uint8_t y2)
 // Frame and solid rectangle.
 static void rectangle(Plain *p, const uint8_t *a, bool solid)
 {
-    bool black = a[0] == 1;
+    bool black = a[0] != 0;
     if (a[1] > a[3] || a[2] > a[4]) {
         plain_refuse(p, DISPLAY_REFUSED_CORNERS_OUT_OF_ORDER);
     } else if (solid) {
@@ -214,7 +214,7 @@ static void obey(Plain *p)
         break;
     case UPLOAD_BITMAP: begin_upload(p, BITMAP); break;
     case SHOW_BITMAP: show_bitmap(p, a); break;
-    case DRAWING_COLOUR: p->black = a[0] == 1; break;
+    case DRAWING_COLOUR: p->black = a[0] != 0; break;
     case INLINE_BITMAP: begin_in_line(p, a); break;
     case LINE: line_to(p, a[0], a[1], a[2], a[3]); break;
     case LINE_ON: line_to(p, p->line_x, p->line_y, a[0], a[1]); break;

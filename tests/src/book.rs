@@ -1,5 +1,6 @@
 //! The book of the third demand, and what else must hold of every byte.
 
+use crate::book_colour::colour_holds;
 use crate::book_missing::missing_holds;
 use crate::files::Files;
 use crate::footprint::Footprint;
@@ -61,6 +62,8 @@ struct Before {
 pub struct Book {
     bars: [Option<Entry>; 16],
     before: Before,
+    /// The byte of the list's last 99, for the counts.
+    colour_byte: Option<u8>,
     /// How often a sure bar was looked at with a value over 0.
     pub sure_looks: usize,
 }
@@ -71,6 +74,7 @@ impl Book {
         Book {
             bars: std::array::from_fn(|n| state.bars[n].as_ref().map(Entry::new)),
             before: Before { glass: glass.clone(), store: store.to_vec(), state: state.clone() },
+            colour_byte: None,
             sure_looks: 0,
         }
     }
@@ -78,6 +82,15 @@ impl Book {
     /// Which bars are sure now.
     pub fn sure(&self) -> [bool; 16] {
         self.bars.map(|entry| entry.is_some_and(|entry| entry.sure))
+    }
+
+    /// The glass as of the last byte.
+    pub fn glass(&self) -> &Glass {
+        &self.before.glass
+    }
+
+    pub fn colour_byte(&self) -> Option<u8> {
+        self.colour_byte
     }
 
     /// The text settings as of the last byte.
@@ -100,8 +113,14 @@ impl Book {
             self.refusal_changes_nothing_else(step, files, state)?;
         }
         self.write_is_thrifty(step, &changed)?;
-        missing_holds(step, (&self.before.glass, &self.before.store, &self.before.state), (glass, &files.raw, state), files)?;
+        let before = (&self.before.glass, &self.before.store[..], &self.before.state);
+        let after = (glass, &files.raw[..], state);
+        missing_holds(step, before, after, files)?;
+        colour_holds(step, before, after)?;
         self.enter(step, &touched, state.height as usize);
+        if step.subject == Subject::Command(99) {
+            self.colour_byte = step.arguments.first().copied();
+        }
         if !changed.is_empty() || step.bar.is_some() {
             self.sure_bars_are_whole(glass)?;
         }

@@ -48,6 +48,7 @@ pub fn watched(board: &mut Board, piece: &[u8], room: usize, book: &mut Book, co
     let mut result = Ok(());
     let fed = board.feed_watched(piece, room, &mut |step, glass, files, state| {
         coverage.step(step, files, state);
+        coverage.colour(step, book.glass(), glass, state.height, book.colour_byte());
         let (text, sure) = (book.text().clone(), book.sure());
         if result.is_ok() {
             result = book.byte(step, glass, files, state);

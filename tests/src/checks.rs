@@ -32,12 +32,13 @@ pub fn after(height: u8, stream: &[u8]) -> Board {
 
 /// The checks of all subjects, by subject and name.
 pub fn all() -> Vec<(String, fn())> {
-    let groups: [(&str, &[(&str, fn())]); 9] = [
+    let groups: [(&str, &[(&str, fn())]); 10] = [
         ("start", crate::checks_start::ALL),
         ("answers", crate::checks_answers::ALL),
         ("heights", crate::checks_heights::ALL),
         ("tall", crate::checks_tall::ALL),
         ("missing", crate::checks_missing::ALL),
+        ("colour", crate::checks_colour::ALL),
         ("soundness", crate::checks_soundness::ALL),
         ("flow", crate::checks_flow::ALL),
         ("store", crate::checks_store::ALL),

@@ -1,7 +1,8 @@
 //! Which commands there are, how many fixed arguments each needs, what each does.
 
+use crate::colour::is_black;
 use crate::footprint::Footprint;
-use crate::glass::{is_black, on_glass};
+use crate::glass::on_glass;
 use crate::line;
 use crate::machine::Machine;
 use crate::mutants::{is, Mutant as M};
@@ -44,7 +45,8 @@ impl Machine<'_> {
             80 => self.set(|s| s.contrast = a[0]),
             88 => self.clear(),
             98 => self.saved_bitmap(a),
-            99 => self.set(|s| s.black = is_black(a[0])),
+            99 | 114 | 120 if is(M::ColourAboveOneRefused) && a[0] > 1 => Err(20),
+            99 => self.drawing_colour(a[0]),
             100 => self.inline_begins(a),
             108 => self.line(a[0], a[1], a[2], a[3]),
             101 => self.line_on(a[0], a[1]),
@@ -115,6 +117,12 @@ impl Machine<'_> {
         self.set(|s| (s.flow, s.full, s.empty) = (true, a[0], a[1]))
     }
 
+    /// Kept as a colour, whatever byte stood for it.
+    fn drawing_colour(&mut self, byte: u8) -> Result<Footprint, u8> {
+        let taken_for_white = is(M::DrawingColourOneAloneIsBlack) && byte != 1;
+        self.set(|s| s.black = is_black(byte) && !taken_for_white)
+    }
+
     fn pixel(&mut self, a: &[u8]) -> Result<Footprint, u8> {
         if is(M::PixelOffGlassRefused) && !on_glass(self.state.height, a[0], a[1]) {
             return Err(17);
@@ -152,7 +160,7 @@ impl Machine<'_> {
     }
 
     fn frame(&mut self, a: &[u8]) -> Result<Footprint, u8> {
-        let black = is_black(a[0]);
+        let black = is_black(a[0]) && !(is(M::FrameOneAloneIsBlack) && a[0] != 1);
         let (mut x2, mut y2) = (a[3] as usize, a[4] as usize);
         let (x1, y1) = (a[1] as usize, a[2] as usize);
         if x1 > x2 || y1 > y2 {
@@ -183,7 +191,10 @@ impl Machine<'_> {
         if is(M::SolidNeedsTwoByTwo) && (a[1] == a[3] || a[2] == a[4]) {
             return Err(18);
         }
-        let black = if is(M::SolidUsesDrawingColour) { self.state.black } else { is_black(a[0]) };
+        let mut black = is_black(a[0]) && !(is(M::SolidOneAloneIsBlack) && a[0] != 1);
+        if is(M::SolidUsesDrawingColour) {
+            black = self.state.black;
+        }
         self.glass.fill(a[1] as usize, a[2] as usize, a[3] as usize, a[4] as usize, black);
         Ok(Footprint::rectangle(a[1], a[2], a[3], a[4]))
     }

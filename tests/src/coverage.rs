@@ -2,6 +2,7 @@
 
 use crate::calls_refused;
 use crate::commands::COMMANDS;
+use crate::coverage_colour;
 use crate::coverage_faults::{reason, REASONS};
 use crate::coverage_heights::{height_reasons, HEIGHT_REASONS};
 use crate::coverage_missing;
@@ -139,6 +140,7 @@ impl Coverage {
         by_height.extend(REASONS.map(|reason| format!("reason {reason}")));
         let mut wanted = calls_refused::wanted();
         wanted.extend(coverage_missing::wanted());
+        wanted.extend(coverage_colour::wanted());
         for rows in HEIGHTS {
             wanted.extend(by_height.iter().map(|what| format!("{rows} rows: {what}")));
         }

@@ -209,8 +209,13 @@ impl Maker {
         bytes
     }
 
+    /// White, the usual black, and other bytes that are black.
+    pub fn colour(&mut self) -> u8 {
+        self.rng.pick(&[0, 0, 0, 0, 1, 1, 2, 127, 128, 129, 254, 255])
+    }
+
     fn drawing(&mut self) -> Vec<u8> {
-        let colour = self.rng.pick(&[0, 1, 1, 1, 2, 255]);
+        let colour = self.colour();
         let [x1, y1, x2, y2] = self.corners();
         let (x, y) = (self.column(), self.row());
         match self.rng.below(8) {

@@ -40,8 +40,8 @@ impl Maker {
             2 => vec![254, 105, n, length.saturating_add(1)],
             3 => vec![254, 105, n, 255],
             4 => vec![254, 105, n, length - 1],
-            5 => vec![254, 120, self.rng.below(2) as u8, bar.x1, bar.y1, bar.x2, bar.y1],
-            6 => vec![254, 99, self.rng.below(2) as u8, 254, 112, bar.x2, bar.y2],
+            5 => vec![254, 120, self.colour(), bar.x1, bar.y1, bar.x2, bar.y1],
+            6 => vec![254, 99, self.colour(), 254, 112, bar.x2, bar.y2],
             7 => vec![254, 105, n, 0, 254, 105, n, self.rng.between(1, length as usize) as u8],
             _ => vec![254, 105, n, self.rng.between(1, length as usize) as u8],
         }

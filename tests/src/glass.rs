@@ -99,14 +99,6 @@ impl Glass {
     }
 }
 
-/// The one rule from a byte to a colour: 1 is black.
-pub fn is_black(byte: u8) -> bool {
-    if is(M::NonzeroIsBlack) {
-        return byte != 0;
-    }
-    byte == 1
-}
-
 pub fn on_glass(height: u8, x: u8, y: u8) -> bool {
     (x as usize) < WIDTH && y < height
 }

@@ -1,5 +1,6 @@
 //! One byte at a time: an argument, a byte of a picture or a file, or a character.
 
+use crate::colour::restarts_at_colour;
 use crate::commands::arguments;
 use crate::files::Files;
 use crate::footprint::Footprint;
@@ -92,7 +93,8 @@ impl Machine<'_> {
 
     fn gather(&mut self, byte: u8) -> (Subject, Result<Footprint, u8>) {
         let mut bytes = self.state.gathering.take().unwrap().bytes;
-        if is(M::EscapeRestartsInsideCommand) && byte == 254 && !bytes.is_empty() {
+        let at_colour = bytes.len() == 1 && restarts_at_colour(bytes[0]);
+        if (is(M::EscapeRestartsInsideCommand) || at_colour) && byte == 254 && !bytes.is_empty() {
             self.state.gathering = Some(Gathering { bytes: Vec::new() });
             return (Subject::Gathered, Ok(Footprint::Nothing));
         }

@@ -102,11 +102,11 @@ black-right g x y h = sym (rw (le-ltb x width h))
 
 -- ---- the rule from a byte to a colour
 
-pub colour-black : (n : ℕ) → n ≡ 1 → colour true ≡ colourOf n
-colour-black n e = rw e
+pub zero-white : (n : ℕ) → n ≡ 0 → colour false ≡ colourOf n
+zero-white n e = rw e
 
-pub colour-white : (n : ℕ) → (n ≡ 1 → ⊥) → colour false ≡ colourOf n
-colour-white n e = rw (ne-eqb n 1 e)
+pub non-zero-black : (n : ℕ) → (n ≡ 0 → ⊥) → colour true ≡ colourOf n
+non-zero-black n e = rw (ne-eqb n 0 e)
 
 -- ---- rows to lend on
 

@@ -1,6 +1,6 @@
 -- Colours, and the one rule from a byte to a colour.
 -- Assumes nothing.
-use mathlib.Core.Bool.{Bool}
+use mathlib.Core.Bool.{Bool, not}
 use Prim.Native.Nat.{ℕ}
 use lib.Dec.{eqb}
 use Rattle.canvas.specs.declared.Colour.{Colour}
@@ -8,6 +8,6 @@ use Rattle.canvas.specs.declared.Colour.{Colour}
 abbrev pub colour : Bool → Colour
 colour b = record { black = b }
 
--- 1 is black, any other byte white
+-- 0 is white, any other byte black
 abbrev pub colourOf : ℕ → Colour
-colourOf n = colour (eqb n 1)
+colourOf n = colour (not (eqb n 0))

@@ -46,14 +46,14 @@ impl Colour {
 
     pub const WHITE: Colour = Colour { black: false };
 
-    // 1 is black, any other byte white.
+    // 0 is white, any other byte black.
     pub fn from_byte(byte: u8) -> Colour
         ensures { λ r. ⌜ r ≡ colourOf byte ⌝ }
     {
-        if byte == 1 {
-            Colour::BLACK
-        } else {
+        if byte == 0 {
             Colour::WHITE
+        } else {
+            Colour::BLACK
         }
     }
 }

@@ -51,13 +51,18 @@ fn pixels() {
 
 fn colours() {
     let mut framebuffer = [0u8; LOW_LENGTH];
-    fill_rectangle(&mut framebuffer, 0, 0, 5, 0, Colour::BLACK);
+    fill_rectangle(&mut framebuffer, 0, 0, 1, 0, Colour::BLACK);
     plot(&mut framebuffer, 1, 0, Colour::from_byte(0));
     plot(&mut framebuffer, 2, 0, Colour::from_byte(1));
     plot(&mut framebuffer, 3, 0, Colour::from_byte(2));
-    plot(&mut framebuffer, 4, 0, Colour::from_byte(255));
-    io::write_all(1, b"colour bytes 0 1 2 255 on black, from column 1\n");
-    show(&framebuffer, 0, 6, 0, 1);
+    plot(&mut framebuffer, 4, 0, Colour::from_byte(128));
+    plot(&mut framebuffer, 5, 0, Colour::from_byte(254));
+    plot(&mut framebuffer, 6, 0, Colour::from_byte(255));
+    io::write_all(
+        1,
+        b"colour bytes 0 1 2 128 254 255 from column 1, 0 on black\n",
+    );
+    show(&framebuffer, 0, 8, 0, 1);
 }
 
 fn solids() {

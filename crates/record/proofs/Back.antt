@@ -8,6 +8,7 @@ use native.Mathlib.Omega.{arith}
 use lib.Dec.{eqb}
 use lib.ListN.{length, drop}
 use lib.Seq.{drop-drop, drop-at, getD-drop}
+use Rattle.canvas.specs.Colour.{colour, colourOf}
 use Rattle.queue.specs.Record.{at, bit}
 use Rattle.state.specs.declared.Phase.{Phase}
 use Rattle.state.specs.declared.Phase.the-variants.{Idle, Prefix, Gathering, Inline, Upload}
@@ -27,6 +28,10 @@ use Rattle.record.proofs.Whole.{Sized, length-gathering, length-data, l
 bit-back : (m : Bool) → eqb (bit m) 1 ≡ m
 bit-back true = refl
 bit-back false = refl
+
+colour-back : (b : Bool) → colourOf (bit b) ≡ colour b
+colour-back true = refl
+colour-back false = refl
 
 pair-back : (n : ℕ) → low n + 256 * high n ≡ n
 pair-back n = omega arith
@@ -151,7 +156,7 @@ module _ (s : State) (z : Sized s) where
   text-read = ap textOf at-text ∙ text-back (s .port .text) (otherBytes (s .port) ++ behind)
 
   pub drawing-read : drawingOf (drop 34 (encodeOf s)) ≡ s .port .drawing
-  drawing-read = ap drawingOf at-drawing ∙ rw (bit-back (s .port .drawing .colour .black))
+  drawing-read = ap drawingOf at-drawing ∙ rw (colour-back (s .port .drawing .colour .black))
 
   pub flow-read : flowOf (drop 37 (encodeOf s)) ≡ s .port .flow
   flow-read = ap flowOf at-flow ∙ rw (bit-back (s .port .flow .on))

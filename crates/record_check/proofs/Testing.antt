@@ -10,6 +10,7 @@ use lib.Dec.{eqb, ltb, leb}
 use lib.ListN.{drop}
 use lib.Seq.{getD-drop}
 use borrow.Author.Tests.{eq-eqb, ne-eqb, le-ltb, le-leb}
+use Rattle.canvas.specs.Colour.{colourOf}
 use Rattle.queue.specs.Record.{at, bit, Bytes, bytesFrom}
 use Rattle.queue.proofs.Tables.{length-bytesFrom}
 use Rattle.state.specs.declared.Phase.{Phase}
@@ -22,13 +23,14 @@ use Rattle.record_check.specs.Parts.{stands, clear, phaseStands, phaseHo
 use Rattle.record_check.proofs.Standing.{stands-next, stands-read, clear-add, zeros-from}
 use Rattle.record.proofs.Ways.{phase-prefix, phase-gathering, phase-inline, phase-upload, phase-idle}
 
--- ---- flags and numbers of two bytes are written as they are read
+-- ---- flags, a colour and numbers of two bytes are written as they are read
 
 pub zero-flag : (n : ℕ) → (n ≡ 1 → ⊥) → eqb n 0 ≡ ltb n 2
 zero-flag n e = elim (ℕ-discrete n 0) [ yes z ↦ rw z | no z ↦ rw (ne-eqb n 0 z, le-ltb n 2 (omega arith)) ]
 
-flag-is : (n : ℕ) → eqb n (bit (eqb n 1)) ≡ ltb n 2
-flag-is n = elim (ℕ-discrete n 1) [ yes e ↦ rw e | no e ↦ rw (ne-eqb n 1 e) (zero-flag n e) ]
+bit-below : (b : Bool) → bit b < 2
+bit-below true = omega arith
+bit-below false = omega arith
 
 low-is : (a b : ℕ) → a < 256 → low (a + 256 * b) ≡ a
 low-is a b h = omega arith
@@ -40,19 +42,35 @@ high-is a b h = omega arith
 read-next : (r : List ℕ) (k n : ℕ) (m : List ℕ) → stands (bytesFrom r k n ++ m) k r ≡ stands m (k + n) r
 read-next r k n m = stands-next (bytesFrom r k n) m k n r (length-bytesFrom r k n) ∙ rw (stands-read r k n)
 
-flag-next : (r : List ℕ) (k : ℕ) (m : List ℕ) → stands (bit (flagAt r k) ∷ m) k r ≡ (ltb (at r k) 2 && stands m (k + 1) r)
-unfolding stands
-flag-next r k m = ap (λ (b : Bool). b && stands m (k + 1) r) (flag-is (at r k))
+-- a flag and a colour are tests of a byte that say no of 0 and yes of 1
+module _ (f : ℕ → Bool) (z : f 0 ≡ false) (o : f 1 ≡ true) where
+  kept-is : (n : ℕ) → eqb n (bit (f n)) ≡ ltb n 2
+  kept-is n =
+      elim (ℕ-discrete n 0) [
+        | yes e ↦ rw (e, z)
+        | no e ↦ elim (ℕ-discrete n 1) [
+          | yes e1 ↦ rw (e1, o)
+          | no e1 ↦ rw (ne-eqb n (bit (f n)) (λ h. omega (arith, bit-below (f n))), le-ltb n 2 (omega arith))
+        ]
+      ]
+
+  kept-next : (r : List ℕ) (k : ℕ) (m : List ℕ) → stands (bit (f (at r k)) ∷ m) k r ≡ (ltb (at r k) 2 && stands m (k + 1) r)
+  unfolding stands
+  kept-next r k m = ap (λ (b : Bool). b && stands m (k + 1) r) (kept-is (at r k))
 
 pub flag-first : (r : List ℕ) (k n : ℕ) → stands (bit (flagAt r k) ∷ bytesFrom r (k + 1) n) k r ≡ ltb (at r k) 2
-flag-first r k n = flag-next r k (bytesFrom r (k + 1) n) ∙ rw (stands-read r (k + 1) n) (and-true (ltb (at r k) 2))
+flag-first r k n = kept-next (λ x. eqb x 1) refl refl r k (bytesFrom r (k + 1) n) ∙ rw (stands-read r (k + 1) n) (and-true (ltb (at r k) 2))
 
--- a flag in front, and another n bytes behind it
+-- one of them in front, and a flag another n bytes behind it
+kept-both : (f : ℕ → Bool) → f 0 ≡ false → f 1 ≡ true → (r : List ℕ) (k n m : ℕ)
+    → stands (bit (f (at r k)) ∷ (bytesFrom r (k + 1) n ++ (bit (flagAt r (k + 1 + n)) ∷ bytesFrom r (k + 1 + n + 1) m))) k r ≡ (ltb (at r k) 2 && ltb (at r (k + 1 + n)) 2)
+kept-both f z o r k n m =
+    kept-next f z o r k (bytesFrom r (k + 1) n ++ (bit (flagAt r (k + 1 + n)) ∷ bytesFrom r (k + 1 + n + 1) m))
+    ∙ ap (λ (b : Bool). ltb (at r k) 2 && b) (read-next r (k + 1) n (bit (flagAt r (k + 1 + n)) ∷ bytesFrom r (k + 1 + n + 1) m) ∙ flag-first r (k + 1 + n) m)
+
 pub flags-both : (r : List ℕ) (k n m : ℕ) → stands (bit (flagAt r k) ∷ (bytesFrom r (k + 1) n ++ (bit (flagAt r (k + 1 + n)) ∷ bytesFrom r (k + 1 + n + 1) m))) k r
     ≡ (ltb (at r k) 2 && ltb (at r (k + 1 + n)) 2)
-flags-both r k n m =
-    flag-next r k (bytesFrom r (k + 1) n ++ (bit (flagAt r (k + 1 + n)) ∷ bytesFrom r (k + 1 + n + 1) m))
-    ∙ ap (λ (b : Bool). ltb (at r k) 2 && b) (read-next r (k + 1) n (bit (flagAt r (k + 1 + n)) ∷ bytesFrom r (k + 1 + n + 1) m) ∙ flag-first r (k + 1 + n) m)
+flags-both = kept-both (λ x. eqb x 1) refl refl
 
 -- ---- the phase, with the arguments
 
@@ -183,12 +201,12 @@ module _ (r : List ℕ) (b : Bytes r) where
   unfolding textHolds
   text-holds x f g w t ef eg ew ex et = rw (et, ex, ew, eg, ef, text-sound, text-read)
 
-  other-plain : otherBytes (portOf r) ≡ bit (flagAt r 34) ∷ (bytesFrom r 35 2 ++ (bit (flagAt r 37) ∷ bytesFrom r 38 5))
+  other-plain : otherBytes (portOf r) ≡ bit (colourOf (at r 34) .black) ∷ (bytesFrom r 35 2 ++ (bit (flagAt r 37) ∷ bytesFrom r 38 5))
   unfolding portOf bytesFrom
   other-plain = simp (getD-drop, low-is (at r 40) (at r 41) (b 40), high-is (at r 40) (at r 41) (b 40))
 
   other-read : stands (otherBytes (portOf r)) 34 r ≡ (ltb (at r 34) 2 && ltb (at r 37) 2)
-  other-read = ap (λ (l : List ℕ). stands l 34 r) other-plain ∙ flags-both r 34 2 5
+  other-read = ap (λ (l : List ℕ). stands l 34 r) other-plain ∙ kept-both (λ n. colourOf n .black) refl refl r 34 2 5
 
   other-sound : thresholdsFit (flowOf (drop 37 r)) ≡ ltb (at r 38 + at r 39) 80
   other-sound = simp getD-drop

@@ -53,11 +53,11 @@ line-obeys w x1 y1 x2 y2 = fair-painted w _ refl refl refl (line x1 y1 x2 y2) (o
 
 pub frame-obeys : (w : World) (c x1 y1 x2 y2 : ℕ) → Obeying w (painted (frame x1 y1 x2 y2)) (drawFrame w c x1 y1 x2 y2)
 unfolding drawFrame
-frame-obeys w c x1 y1 x2 y2 = passes w _ (not (ordered x1 y1 x2 y2)) 18 _ (λ _. fair-painted w _ refl refl refl (frame x1 y1 x2 y2) (outside-put (frame x1 y1 x2 y2) (plain (eqb c 1)) (w .framebuffer)))
+frame-obeys w c x1 y1 x2 y2 = passes w _ (not (ordered x1 y1 x2 y2)) 18 _ (λ _. fair-painted w _ refl refl refl (frame x1 y1 x2 y2) (outside-put (frame x1 y1 x2 y2) _ (w .framebuffer)))
 
 pub solid-obeys : (w : World) (c x1 y1 x2 y2 : ℕ) → Obeying w (painted (rectangle x1 y1 x2 y2)) (fillRectangle w c x1 y1 x2 y2)
 unfolding fillRectangle
-solid-obeys w c x1 y1 x2 y2 = passes w _ (not (ordered x1 y1 x2 y2)) 18 _ (λ _. fair-painted w _ refl refl refl (rectangle x1 y1 x2 y2) (outside-put (rectangle x1 y1 x2 y2) (plain (eqb c 1)) (w .framebuffer)))
+solid-obeys w c x1 y1 x2 y2 = passes w _ (not (ordered x1 y1 x2 y2)) 18 _ (λ _. fair-painted w _ refl refl refl (rectangle x1 y1 x2 y2) (outside-put (rectangle x1 y1 x2 y2) _ (w .framebuffer)))
 
 -- ---- bars and strips
 

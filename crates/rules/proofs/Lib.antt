@@ -1,5 +1,6 @@
 pub mod Examples
 pub mod Heights
+pub mod Colours
 pub mod Missing
 pub mod MissingExamples
 pub mod Footprints

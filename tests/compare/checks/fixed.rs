@@ -3,7 +3,7 @@
 use compare::compare::{Call, Pair};
 use compare::lists::{arrivals, run, run_seed, set_flow, takes, Cuts, Plan, Rooms, Run};
 use compare::memory::Memory;
-use compare::record::{FLOW, HELD, LOST, PLACE, REFUSALS};
+use compare::record::{DRAWING, FLOW, HELD, LOST, PLACE, REFUSALS};
 use compare::report::expect;
 use compare::{random, streams};
 use reference::board::Board;
@@ -79,6 +79,29 @@ fn every_next_byte() {
         for byte in 0..=255 {
             let result = pair.call(&mut memory.clone(), Call::Feed { piece: &[byte], room: 2 });
             expect(&mut pair, &format!("memory {number}, byte {byte}"), result.map(drop));
+        }
+    }
+}
+
+/// Every byte as the colour of each command that reads one, over pixels of both colours; the record keeps 0 or 1.
+#[test]
+fn every_colour_byte() {
+    let mut pair = Pair::default();
+    let mut rng = Prng::new(14);
+    for height in HEIGHTS {
+        let board = Board::fresh(pair.font(), height, vec![0; 1024]);
+        for colour in 0..=255 {
+            let drawing = [254, 99, colour, 254, 112, 3, 60, 254, 108, 0, 9, 50, 63, 254, 101, 9, 9];
+            let shapes = [254, 114, colour, 60, 5, 90, 70, 254, 120, colour, 100, 5, 140, 70, 254, 112, 5, 60];
+            for cuts in [Cuts::Whole, Cuts::Bytes] {
+                let mut memory = Memory::of(&board);
+                memory.glass = random::bytes(&mut rng, memory.glass.len());
+                memory.state[DRAWING] = rng.below(2) as u8;
+                let stream = [&drawing[..], &shapes].concat();
+                let result = run(&mut pair, &mut memory, &stream, Plan::plain(cuts), &mut rng);
+                expect(&mut pair, &format!("colour {colour}, {height} rows"), result);
+                assert_eq!(memory.state[DRAWING], (colour != 0) as u8, "colour {colour}");
+            }
         }
     }
 }

@@ -2,6 +2,7 @@
 
 use compare::random;
 use compare::record::*;
+use reference::board::Board;
 use reference::builtin::built_in_font;
 use reference::generator::any_scene;
 use reference::glass::{HEIGHTS, LOW, TALL};
@@ -157,6 +158,19 @@ fn sound_and_not_sound() {
     for on in [0, 1] {
         assert!(with(&[(37, on), (38, 40), (39, 39)]) && !with(&[(37, on), (38, 40), (39, 40)]));
         assert!(with(&[(37, on), (38, 79)]) && !with(&[(37, on), (39, 80)]) && !with(&[(37, on), (38, 200), (39, 100)]));
+    }
+}
+
+/// Any byte but 0 is black to a command, but the record keeps the colour: 0 or 1, and no other byte is sound.
+#[test]
+fn drawing_colour_is_a_flag() {
+    let font = built_in_font();
+    for byte in 0..=255 {
+        let mut board = Board::fresh(&font, LOW, vec![0; 1024]);
+        board.state.black = byte == 0;
+        board.feed(&[254, 99, byte], 6);
+        assert_eq!(encode_state(&board.state)[DRAWING], (byte != 0) as u8, "byte {byte}");
+        assert_eq!(with(&[(DRAWING, byte)]), byte <= 1, "byte {byte}");
     }
 }
 

@@ -99,7 +99,7 @@ fn on_the_glass(rng: &mut Prng, height: usize, stream: &mut Vec<u8>) {
             stream.extend([254, 107, strip, 254, 107, strip + 128]);
         }
         _ => {
-            stream.extend([254, rng.pick(&[114, 120]), rng.below(3) as u8]);
+            stream.extend([254, rng.pick(&[114, 120]), rng.pick(&[0, 0, 0, 1, 2, 128, 254, 255])]);
             stream.extend(corners);
         }
     }
