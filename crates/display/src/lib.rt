@@ -67,7 +67,7 @@ pub extern "C" fn display_start(
     }
     scroll::clear(framebuffer);
     let s = start_state(chosen);
-    record::encode(s, state);
+    record_write::encode(s, state);
     empty_queue(queue);
     DONE
 }

@@ -6,7 +6,7 @@ use outcome::Reply;
 use record::PANEL;
 use record::RECORD;
 use record::decode_port;
-use record::encode_port;
+use record_write::encode_port;
 use state::Phase;
 use state::Port;
 use storage::is_turned_away;

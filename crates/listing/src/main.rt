@@ -83,8 +83,8 @@ fn show_framebuffer(framebuffer: &[u8], height: u8) {
 }
 
 fn show_refusals(state: &[u8]) {
-    let s = record::decode(state);
-    let refusals = s.port.refusals;
+    let port = record::decode_port(state);
+    let refusals = port.refusals;
     io::write_all(1, b"refused ");
     io::print_decimal(1, refusals.count as u64);
     io::write_all(1, b" last ");

@@ -12,7 +12,7 @@ use Rattle.canvas.specs.Colour.{colourOf}
 use Rattle.queue.specs.Record.{at, bytesFrom}
 use Rattle.queue.proofs.Tables.{at-bytesFrom}
 use Rattle.state.specs.declared.Phase.the-variants.{Inline, Upload}
-use Rattle.record.specs.Reading.{inlineOf, uploadOf, argumentsIn, textOf, drawingOf, flowOf, refusalsOf, slotOf, stripOf, serialOf, backlightOf}
+use Rattle.record.specs.Reading.{inlineOf, uploadOf, argumentsIn, textOf, drawingOf, flowOf, refusalsOf}
 
 pub at-end : (r : List ℕ) (k : ℕ) → length r ≤ k → 0 ≡ at r k
 at-end r k h = sym (List·getD-eq-default r 0 {n = k} h)
@@ -61,19 +61,3 @@ module _ (l w : List ℕ) (e : w ≡ bytesFrom l 0 11) where
   pub refusals-are : (n : ℕ) → n ≡ at w 0 + 256 * at w 1 → record { count = n; last = at w 2 } ≡ refusalsOf l
   unfolding bytesFrom
   refusals-are n f = rw (f, e)
-
-  pub slot-is : slotOf w ≡ slotOf l
-  unfolding bytesFrom
-  slot-is = rw e
-
-  pub strip-is : stripOf w ≡ stripOf l
-  unfolding bytesFrom
-  strip-is = rw e
-
-  pub serial-is : serialOf w ≡ serialOf l
-  unfolding bytesFrom
-  serial-is = rw e
-
-  pub backlight-is : backlightOf w ≡ backlightOf l
-  unfolding bytesFrom
-  backlight-is = rw e

@@ -1,21 +1,14 @@
-// The state as the record of 202 bytes that a caller keeps.
+// The record of 202 bytes in which a caller keeps the state: its layout, and what is read from it.
 mod reading;
-mod writing;
 
 use queue::Flow;
 use reading::byte_at;
 pub use reading::decode_port;
 use reading::flow_of;
 pub use reading::pair;
-use reading::panel_of;
 pub use reading::word;
-use state::State;
-use writing::encode_height;
-use writing::encode_panel;
-pub use writing::encode_port;
 ghost use mathlib.Core.Path.{_≡_};
 ghost use Rattle.record.specs.Reading.{heightIn, decodeOf};
-ghost use Rattle.record.specs.Record.{encodedIn};
 
 // Where the parts stand. The phase: 0 idle, 1 prefix, 2 gathering, 3 in line, 4 upload.
 pub const PHASE: usize = 0;
@@ -79,38 +72,16 @@ pub const MINUTES: usize = 201;
 
 pub const RECORD: usize = 202;
 
-// The state that a record says; a short record goes on with zeros.
-pub fn decode(r: &[u8]) -> State
-    ensures { λ s. ⌜ s ≡ decodeOf (now (r .entry)) ⌝ }
-{
-    State {
-        height: height_in(r),
-        port: decode_port(r),
-        panel: panel_of(r),
-    }
-}
-
-// Its height alone.
+// The height that a record says; a short record goes on with zeros.
 pub fn height_in(r: &[u8]) -> u8
     ensures { λ h. ⌜ h ≡ heightIn (now (r .entry)) ⌝ }
 {
     byte_at(r, HEIGHT)
 }
 
-// Its flow control alone.
+// Its flow control.
 pub fn flow_in(r: &[u8]) -> Flow
     ensures { λ f. ⌜ f ≡ decodeOf (now (r .entry)) .port .flow ⌝ }
 {
     flow_of(r)
-}
-
-// Writes the record of a state over the first bytes, as far as there are any; all others stay.
-pub fn encode(s: State, out: &mut [u8])
-    ensures { λ _. ⌜ now (out .exit) ≡ encodedIn s (now (out .entry)) ⌝ }
-{
-    let port = s.port;
-    let panel = s.panel;
-    encode_port(port, out);
-    encode_height(s.height, out);
-    encode_panel(panel, out);
 }

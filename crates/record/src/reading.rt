@@ -1,45 +1,29 @@
 // The parts of a state, read from a record.
-use super::BACKLIGHT;
-use super::BAR_SIZE;
 use super::CODE;
-use super::CONTRAST;
 use super::DRAWING;
-use super::FIRST_BAR;
-use super::FIRST_STRIP;
 use super::FLOW;
 use super::GATHERED;
 use super::GOT;
 use super::INLINE;
 use super::PHASE;
 use super::REFUSAL_COUNT;
-use super::SERIAL;
-use super::STRIP_SIZE;
 use super::TEXT;
 use super::UPLOAD;
-use bar_graph::Bar;
 use canvas::Colour;
 use queue::Flow;
 use state::ARGUMENTS;
-use state::BARS;
-use state::Backlight;
-use state::BarSlot;
 use state::Drawing;
 use state::Line;
-use state::Panel;
 use state::Phase;
 use state::Port;
 use state::Refusals;
-use state::STRIPS;
-use state::Serial;
-use state::Strip;
 use state::Text;
 ghost use mathlib.Core.Path.{_≡_};
 ghost use Prim.Native.Nat.{_+_, _*_, _<_, _≤_};
 ghost use lib.ListN.{length, drop};
 ghost use Rattle.queue.specs.Record.{at, bytesFrom};
-ghost use Rattle.record.specs.Layout.{argumentsAt, inlineAt, uploadAt, textAt, drawingAt, flowAt, refusalsAt, panelAt, barsAt, barSize, stripsAt, stripSize, serialAt, backlightAt, recordSize};
-ghost use Rattle.record.specs.Reading.{manyOf, inlineOf, uploadOf, phaseOf, argumentsIn, textOf, drawingOf, flowOf, refusalsOf, portOf};
-ghost use Rattle.record.specs.Reading.{slotOf, stripOf, serialOf, backlightOf, panelOf};
+ghost use Rattle.record.specs.Layout.{argumentsAt, inlineAt, uploadAt, textAt, drawingAt, flowAt, refusalsAt, recordSize};
+ghost use Rattle.record.specs.Reading.{inlineOf, uploadOf, phaseOf, argumentsIn, textOf, drawingOf, flowOf, refusalsOf, portOf};
 
 // Bytes of the longest part.
 const LONGEST: usize = 11;
@@ -222,97 +206,5 @@ pub fn decode_port(r: &[u8]) -> Port
         drawing: drawing_of(r),
         flow: flow_of(r),
         refusals: refusals_of(r),
-    }
-}
-
-fn slot_at(r: &[u8], k: usize) -> BarSlot
-    requires { ⌜ k < recordSize ⌝ }
-    ensures { λ s. ⌜ s ≡ slotOf (drop k (now (r .entry))) ⌝ }
-{
-    let l = part_at(r, k);
-    let bar = Bar {
-        kind: l[1],
-        x1: l[2],
-        y1: l[3],
-        x2: l[4],
-        y2: l[5],
-        value: l[6],
-    };
-    BarSlot {
-        on: l[0] == 1,
-        bar: bar,
-    }
-}
-
-fn bars_of(r: &[u8]) -> [BarSlot; BARS]
-    ensures { λ l. ⌜ l ≡ manyOf slotOf barSize (drop barsAt (now (r .entry))) 16 ⌝ }
-{
-    let first = slot_at(r, FIRST_BAR);
-    let mut bars = [first; BARS];
-    let mut i = 1;
-    while i < BARS {
-        bars[i] = slot_at(r, FIRST_BAR + BAR_SIZE * i);
-        i += 1;
-    }
-    bars
-}
-
-fn strip_at(r: &[u8], k: usize) -> Strip
-    requires { ⌜ k < recordSize ⌝ }
-    ensures { λ s. ⌜ s ≡ stripOf (drop k (now (r .entry))) ⌝ }
-{
-    let l = part_at(r, k);
-    Strip {
-        on: l[0] == 1,
-        x1: l[1],
-        y1: l[2],
-        x2: l[3],
-        y2: l[4],
-    }
-}
-
-fn strips_of(r: &[u8]) -> [Strip; STRIPS]
-    ensures { λ l. ⌜ l ≡ manyOf stripOf stripSize (drop stripsAt (now (r .entry))) 8 ⌝ }
-{
-    let first = strip_at(r, FIRST_STRIP);
-    let mut strips = [first; STRIPS];
-    let mut i = 1;
-    while i < STRIPS {
-        strips[i] = strip_at(r, FIRST_STRIP + STRIP_SIZE * i);
-        i += 1;
-    }
-    strips
-}
-
-fn serial_of(r: &[u8]) -> Serial
-    ensures { λ s. ⌜ s ≡ serialOf (drop serialAt (now (r .entry))) ⌝ }
-{
-    let l = part_at(r, SERIAL);
-    Serial {
-        on: l[0] == 1,
-        a: l[1],
-        b: l[2],
-    }
-}
-
-fn backlight_of(r: &[u8]) -> Backlight
-    ensures { λ b. ⌜ b ≡ backlightOf (drop backlightAt (now (r .entry))) ⌝ }
-{
-    let l = part_at(r, BACKLIGHT);
-    Backlight {
-        on: l[0] == 1,
-        minutes: l[1],
-    }
-}
-
-pub fn panel_of(r: &[u8]) -> Panel
-    ensures { λ q. ⌜ q ≡ panelOf (drop panelAt (now (r .entry))) ⌝ }
-{
-    Panel {
-        bars: bars_of(r),
-        strips: strips_of(r),
-        serial: serial_of(r),
-        contrast: byte_at(r, CONTRAST),
-        backlight: backlight_of(r),
     }
 }
