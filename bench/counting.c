@@ -34,10 +34,18 @@ static void feed_nothing(void)
     sides[OURS].feed(replies, 0, replies);
 }
 
+static void pass_a_millisecond(void)
+{
+    static uint8_t replies[REPLIES];
+    sides[OURS].time(1, replies);
+}
+
 static const Work works[] = {
     {"arrive and take, a byte", 1200, nothing, queue_byte, NULL},
     {"a feed of no bytes, no files", 1500, nothing, feed_nothing, NULL},
     {"a feed of no bytes, 63 files", 5000, store_files, feed_nothing, NULL},
+    {"a time, no files", 1500, nothing, pass_a_millisecond, NULL},
+    {"a time, 63 files", 5000, store_files, pass_a_millisecond, NULL},
     {"text, a byte", 700, nothing, NULL, "text"},
     {"missing letters, a byte", 0, nothing, NULL, "missing letters"},
     {"pixels, a byte", 90, nothing, NULL, "pixels"},
@@ -49,6 +57,7 @@ static const Work works[] = {
     {"saved bitmaps, a byte", 0, nothing, NULL, "saved bitmaps"},
     {"in-line bitmaps, a byte", 0, nothing, NULL, "in-line bitmaps"},
     {"upload and delete, a byte", 0, nothing, NULL, "upload and delete"},
+    {"upload and delete, newer edition, a byte", 0, nothing, NULL, "upload and delete, newer edition"},
 };
 
 // As many copies as there is room for, so that pieces are full.
@@ -59,14 +68,20 @@ static void repeat(Stream *s)
         put(s, s->bytes, once);
 }
 
-static void build(Stream *setup, Stream *s, const char *name)
+// NULL for the mixed stream.
+static const Family *family_of(const char *name)
 {
     size_t i = 0;
     while (i < family_count && strcmp(families[i].name, name) != 0)
         i++;
-    if (i < family_count) {
-        families[i].setup(setup);
-        families[i].timed(s);
+    return i < family_count ? &families[i] : NULL;
+}
+
+static void build(Stream *setup, Stream *s, const Family *family)
+{
+    if (family) {
+        family->setup(setup);
+        family->timed(s);
     } else {
         mixed(s);
     }
@@ -78,6 +93,7 @@ int main(int count, char **arguments)
 {
     static Stream setup, stream;
     const Work *work;
+    const Family *family;
     unsigned long number, times, units = DISPLAY_QUEUE_CAPACITY, i;
     if (count != 3) {
         fprintf(stderr, "usage: %s WORK TIMES\n", arguments[0]);
@@ -88,10 +104,11 @@ int main(int count, char **arguments)
     if (number >= sizeof works / sizeof *works)
         return 1;
     work = &works[number];
-    sides[OURS].start();
+    family = work->stream ? family_of(work->stream) : NULL;
+    sides[OURS].start(family ? family->edition : DISPLAY_OLDER_EDITION);
     work->start();
     if (work->stream) {
-        build(&setup, &stream, work->stream);
+        build(&setup, &stream, family);
         feed_stream(&sides[OURS], &setup, PIECE);
         units = (unsigned long)stream.length;
     }

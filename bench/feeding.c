@@ -27,14 +27,14 @@ static const char *verdict(int to_independent, int to_plain)
     return to_plain ? "not met to the independent one" : "met to neither";
 }
 
-static void print_row(const char *name, const Stream *setup, const Stream *timed, size_t piece, double goal,
-                      double shortest)
+static void print_row(const char *name, uint32_t edition, const Stream *setup, const Stream *timed, size_t piece,
+                      double goal, double shortest)
 {
     Feeding feedings[SIDES];
     Runner runners[SIDES];
     double ns[SIDES];
     int i;
-    check_agreement(name, setup, timed);
+    check_agreement(name, edition, setup, timed);
     for (i = 0; i < SIDES; i++) {
         feedings[i] = (Feeding){&sides[i], timed, piece};
         runners[i] = (Runner){run, &feedings[i], 0};
@@ -58,13 +58,13 @@ void print_feeding(double shortest)
            "| Today |\n"
            "|---|---|---|---|---|---|---|---|---|---|---|\n");
     mixed(&timed);
-    print_row("mixed", &setup, &timed, PIECE, 1, shortest);
-    print_row("mixed", &setup, &timed, 1, 1, shortest);
+    print_row("mixed", DISPLAY_OLDER_EDITION, &setup, &timed, PIECE, 1, shortest);
+    print_row("mixed", DISPLAY_OLDER_EDITION, &setup, &timed, 1, 1, shortest);
     for (i = 0; i < family_count; i++) {
         setup.length = timed.length = 0;
         families[i].setup(&setup);
         families[i].timed(&timed);
-        print_row(families[i].name, &setup, &timed, PIECE, families[i].goal, shortest);
+        print_row(families[i].name, families[i].edition, &setup, &timed, PIECE, families[i].goal, shortest);
     }
     printf("\n");
 }

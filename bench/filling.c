@@ -49,6 +49,14 @@ static void feed_nothing(const void *what, unsigned long times)
         side->feed(glass, 0, replies);
 }
 
+static void pass_milliseconds(const void *what, unsigned long times)
+{
+    static uint8_t replies[REPLIES];
+    const Side *side = what;
+    while (times-- > 0)
+        side->time(1, replies);
+}
+
 static void expect_byte(uint8_t taken, uint8_t sent)
 {
     if (taken != sent) {
@@ -157,9 +165,11 @@ static void print_overheads(double shortest)
     Repeated *colour = REPEATED(OURS, COMMAND, DRAWING_COLOUR, 1);
     Repeated *plain_colour = REPEATED(PLAIN_PIXELS, COMMAND, DRAWING_COLOUR, 1);
     Runner nothing = {feed_nothing, &sides[OURS], 0}, plain_nothing = {feed_nothing, &sides[PLAIN_PIXELS], 0};
+    Runner time = {pass_milliseconds, &sides[OURS], 0}, plain_time = {pass_milliseconds, &sides[PLAIN_PIXELS], 0};
     print_pair("a command that paints nothing, `254 99 1`", (Runner){feed_repeated, colour, 0}, "plain C",
                (Runner){feed_repeated, plain_colour, 0}, (double)colour->count, 3, shortest);
     print_pair("a feed of no bytes, no files", nothing, "plain C", plain_nothing, 1, COUNTED, shortest);
+    print_pair("a time, no files", time, "plain C", plain_time, 1, COUNTED, shortest);
     fill_directory(&sides[OURS]);
     fill_directory(&sides[PLAIN_PIXELS]);
     print_pair("a feed of no bytes, 63 files", nothing, "plain C", plain_nothing, 1, COUNTED, shortest);
@@ -175,7 +185,7 @@ void print_filling(double shortest)
     Repeated *solid = REPEATED(OURS, COMMAND, RECTANGLE, 1, 0, 0, DISPLAY_WIDTH - 1, DISPLAY_LOW_HEIGHT - 1);
     int i;
     for (i = 0; i < SIDES; i++)
-        sides[i].start();
+        sides[i].start(DISPLAY_OLDER_EDITION);
     printf("The whole glass through display_feed, in pieces of %d bytes, and what calls cost without painting; ns.\n\n"
            "| What | Ours | Against | Theirs | Ratio | Goal | Today |\n"
            "|---|---|---|---|---|---|---|\n", PIECE);

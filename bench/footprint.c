@@ -1,6 +1,7 @@
 // Stack depth: each call runs on a stack that was painted with a pattern, and what is no longer the pattern was used.
 #define _XOPEN_SOURCE 700
 
+#include "commands.h"
 #include "display.h"
 #include "sides.h"
 #include "tables.h"
@@ -40,8 +41,8 @@ static void nothing(void)
 
 static void start(void)
 {
-    display_start(DISPLAY_LOW_HEIGHT, our_glass, DISPLAY_LOW_FRAMEBUFFER_SIZE, our_store, DISPLAY_STORE_MOST, our_state,
-                  DISPLAY_STATE_RECORD_SIZE, our_queue, DISPLAY_QUEUE_RECORD_SIZE);
+    display_start(DISPLAY_LOW_HEIGHT, DISPLAY_OLDER_EDITION, our_glass, DISPLAY_LOW_FRAMEBUFFER_SIZE, our_store,
+                  DISPLAY_STORE_MOST, our_state, DISPLAY_STATE_RECORD_SIZE, our_queue, DISPLAY_QUEUE_RECORD_SIZE);
 }
 
 static void feed_all(const Stream *s)
@@ -60,6 +61,14 @@ static void feed(void)
 static void feed_noise(void)
 {
     feed_all(&noise);
+}
+
+static void drop_upload(void)
+{
+    uint8_t replies[DISPLAY_REPLY_ROOM];
+    display_length replied;
+    display_time(our_glass, DISPLAY_LOW_FRAMEBUFFER_SIZE, our_store, DISPLAY_STORE_MOST, our_state,
+                 DISPLAY_STATE_RECORD_SIZE, DISPLAY_UPLOAD_TIMEOUT, replies, sizeof replies, &replied);
 }
 
 static void arrive(void)
@@ -88,7 +97,7 @@ static size_t depth_of_feed(void)
 {
     uint32_t seed = 1;
     size_t depth;
-    sides[OURS].start();
+    sides[OURS].start(DISPLAY_OLDER_EDITION);
     mixed(&stream);
     depth = depth_of(feed);
     stream.length = 0;
@@ -106,6 +115,16 @@ static size_t depth_of_feed(void)
     return most(depth, depth_of(feed_noise));
 }
 
+// Of a time that ends an upload.
+static size_t depth_of_time(void)
+{
+    sides[OURS].start(DISPLAY_OLDER_EDITION);
+    stream.length = 0;
+    PUT(&stream, COMMAND, UPLOAD_BITMAP, 7, 3, 0);
+    feed();
+    return depth_of(drop_upload);
+}
+
 static void print_row(const char *name, size_t bytes, size_t goal, const char *why)
 {
     printf("| %s | %lu | %lu | %s | %s |\n", name, (unsigned long)bytes, (unsigned long)goal, why, met(bytes <= goal));
@@ -114,7 +133,7 @@ static void print_row(const char *name, size_t bytes, size_t goal, const char *w
 void print_footprint(const Footprint *f)
 {
     char frame[160];
-    size_t none = depth_of(nothing), started = depth_of(start), fed = depth_of_feed();
+    size_t none = depth_of(nothing), started = depth_of(start), fed = depth_of_feed(), timed = depth_of_time();
     size_t arrived, taken;
     start();
     arrived = depth_of(arrive);
@@ -122,9 +141,10 @@ void print_footprint(const Footprint *f)
     printf("Code and stack, bytes, for a board with 128 KiB of flash and 20 KiB of RAM.\n\n"
            "| What | Ours | Goal | Why | Today |\n|---|---|---|---|---|\n");
     print_row("code and constants in the archive", f->archive, 65536, "half the flash is the driver's");
-    print_row("the same, linked by a program of all four calls", f->linked, 65536, "half the flash is the driver's");
+    print_row("the same, linked by a program of all five calls", f->linked, 65536, "half the flash is the driver's");
     print_row("stack of display_feed", fed - none, 2048,
               "a tenth of the RAM; glass, records, a store of 8 KiB and the driver share the rest");
+    print_row("stack of display_time", timed - none, 2048, "as display_feed");
     print_row("stack of display_start", started - none, 2048, "as display_feed");
     print_row("stack of display_arrive", arrived - none, 512, "called for every byte, maybe on a handler's stack");
     print_row("stack of display_take", taken - none, 512, "as display_arrive");

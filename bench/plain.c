@@ -3,16 +3,19 @@
 
 #include <string.h>
 
-// Arguments of each code, and one more; 0 is an unknown code.
-static const uint8_t needs[256] = {
-    [CLEAR] = 1, [UPLOAD_BITMAP] = 4, [SHOW_BITMAP] = 4, [DRAWING_COLOUR] = 2, [INLINE_BITMAP] = 5, [LINE_ON] = 3,
-    [SET_UP_BAR] = 7, [WRITE_BAR] = 3, [SET_UP_STRIP] = 6, [SHIFT_STRIP] = 2, [LINE] = 5, [PIXEL] = 3, [FRAME] = 6,
-    [RECTANGLE] = 6, [DELETE_FILE] = 3,
+// Arguments of each code in either edition, and one more; 0 is an unknown code.
+#define SAME_NEEDS                                                                                                     \
+    [CLEAR] = 1, [DRAWING_COLOUR] = 2, [INLINE_BITMAP] = 5, [LINE_ON] = 3, [SET_UP_BAR] = 7, [WRITE_BAR] = 3,          \
+    [SET_UP_STRIP] = 6, [SHIFT_STRIP] = 2, [LINE] = 5, [PIXEL] = 3, [FRAME] = 6, [RECTANGLE] = 6
+static const uint8_t needs[2][256] = {
+    {SAME_NEEDS, [UPLOAD_BITMAP] = 4, [SHOW_BITMAP] = 4, [DELETE_FILE] = 3},
+    {SAME_NEEDS, [UPLOAD_BITMAP] = 7, [SHOW_BITMAP] = 5, [DELETE_FILE] = 4},
 };
 
-void plain_start(Plain *p, const Painters *paint, const uint8_t *font)
+void plain_start(Plain *p, uint32_t edition, const Painters *paint, const uint8_t *font)
 {
     memset(p, 0, sizeof *p);
+    p->newer = edition == DISPLAY_NEWER_EDITION;
     p->paint = paint;
     p->font = font;
     p->line_space = 1;
@@ -168,14 +171,14 @@ static void shift_strip(Plain *p, uint8_t a)
 static void show_bitmap(Plain *p, const uint8_t *a)
 {
     unsigned offset;
-    const File *file = find_file(p, BITMAP, a[0], &offset);
-    const uint8_t *data = p->data + offset;
+    const File *file = find_file(p, BITMAP, number_at(p, a), &offset);
+    const uint8_t *data = p->data + offset, *place = a + number_bytes(p);
     if (!file)
         plain_refuse(p, DISPLAY_REFUSED_NO_SUCH_FILE);
     else if (file->size < 2 || data[0] == 0 || data[1] == 0 || file->size != 2 + (data[0] * data[1] + 7u) / 8u)
         plain_refuse(p, DISPLAY_REFUSED_MALFORMED_FILE);
     else
-        p->paint->packed(p->glass, a[1], a[2], data[0], data[1], data + 2);
+        p->paint->packed(p->glass, place[0], place[1], data[0], data[1], data + 2);
 }
 
 static void begin_in_line(Plain *p, const uint8_t *a)
@@ -233,7 +236,7 @@ static void take_code(Plain *p, uint8_t byte)
 {
     p->code = byte;
     p->gathered = 0;
-    p->needed = needs[byte];
+    p->needed = needs[p->newer][byte];
     if (p->needed == 0) {
         p->phase = IDLE;
         plain_refuse(p, DISPLAY_REFUSED_UNKNOWN_COMMAND);
@@ -244,13 +247,24 @@ static void take_code(Plain *p, uint8_t byte)
     }
 }
 
+// Why there is no saved bitmap of the number that has come; 0 where there is one.
+static uint8_t bitmap_refused(const Plain *p)
+{
+    unsigned offset, number = number_at(p, p->arguments);
+    if (number > DISPLAY_FILE_NUMBER_MOST)
+        return DISPLAY_REFUSED_NUMBER_OUT_OF_RANGE;
+    return find_file(p, BITMAP, number, &offset) ? 0 : DISPLAY_REFUSED_NO_SUCH_FILE;
+}
+
 static void take_argument(Plain *p, uint8_t byte)
 {
-    unsigned offset;
+    uint8_t refused = 0;
     p->arguments[p->gathered++] = byte;
-    if (p->code == SHOW_BITMAP && p->gathered == 1 && !find_file(p, BITMAP, byte, &offset)) {
+    if (p->code == SHOW_BITMAP && p->gathered == number_bytes(p))
+        refused = bitmap_refused(p);
+    if (refused) {
         p->phase = IDLE;
-        plain_refuse(p, DISPLAY_REFUSED_NO_SUCH_FILE);
+        plain_refuse(p, refused);
     } else if (p->gathered == p->needed) {
         obey(p);
     }

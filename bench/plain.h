@@ -12,6 +12,9 @@
 
 enum { PLAIN_FONT_SIZE = 764, PLAIN_FILES = 63, PLAIN_DATA_SIZE = DISPLAY_STORE_MOST - DISPLAY_DIRECTORY_SIZE };
 
+// Directory entries, in bytes: of a file in the older and in the newer edition, and all together at most.
+enum { OLDER_ENTRY = 4, NEWER_ENTRY = 7, PLAIN_ENTRIES = DISPLAY_DIRECTORY_SIZE - 1 };
+
 // Rectangles hold both their corners. What lies beyond the glass is clipped.
 typedef struct {
     void (*fill)(uint8_t *glass, unsigned x1, unsigned y1, unsigned x2, unsigned y2, bool black);
@@ -56,14 +59,16 @@ typedef struct {
 } Strip;
 
 typedef struct {
-    uint8_t kind, number;
-    unsigned size;
+    uint8_t kind, entry; // the latter in bytes
+    uint16_t number;
+    uint32_t size;
 } File;
 
 typedef enum { IDLE, PREFIX, ARGUMENTS, IN_LINE, UPLOAD } Phase;
 
 typedef struct {
     uint8_t glass[DISPLAY_LOW_FRAMEBUFFER_SIZE];
+    bool newer; // the edition
     const Painters *paint;
     const uint8_t *font;
     Phase phase;
@@ -79,7 +84,8 @@ typedef struct {
     uint16_t refusals;
     uint8_t last_refusal;
     File files[PLAIN_FILES], upload; // end to end in `data`, in this order
-    unsigned file_count, used, stored;
+    unsigned file_count, entries, used, stored;
+    uint32_t waited; // milliseconds since the upload's last byte
     bool echoed;
     uint8_t echo;
     uint8_t data[PLAIN_DATA_SIZE];
@@ -87,15 +93,29 @@ typedef struct {
     size_t replied;
 } Plain;
 
-void plain_start(Plain *p, const Painters *paint, const uint8_t *font);
+void plain_start(Plain *p, uint32_t edition, const Painters *paint, const uint8_t *font);
 
 // Obeys bytes while two reply bytes are free; the answer is how many. `p->replied` replies were written.
 size_t plain_feed(Plain *p, const uint8_t *piece, size_t length, uint8_t *replies, size_t replies_length);
 
+// Time passes, where two reply bytes are free.
+bool plain_time(Plain *p, uint32_t milliseconds, uint8_t *replies, size_t replies_length);
+
 void plain_refuse(Plain *p, uint8_t reason);
 
+// The file number that the arguments begin with, and how many of them it takes.
+static inline unsigned number_bytes(const Plain *p)
+{
+    return p->newer ? 2 : 1;
+}
+
+static inline unsigned number_at(const Plain *p, const uint8_t *arguments)
+{
+    return p->newer ? arguments[0] + 256u * arguments[1] : arguments[0];
+}
+
 // Files: `offset` is where the data of a found one begins. NULL where there is none.
-const File *find_file(const Plain *p, uint8_t kind, uint8_t number, unsigned *offset);
+const File *find_file(const Plain *p, uint8_t kind, unsigned number, unsigned *offset);
 void begin_upload(Plain *p, uint8_t kind);
 void take_upload_byte(Plain *p, uint8_t byte);
 void delete_file(Plain *p);

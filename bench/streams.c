@@ -125,18 +125,42 @@ static void strips(Stream *s)
             PUT(s, COMMAND, SHIFT_STRIP, (uint8_t)(n + (round % 2 == 0 ? 128 : 0)));
 }
 
-// Bitmaps 1 to BITMAPS, each byte followed by the host's confirmation.
+static const uint8_t sizes[BITMAPS][2] = {{16, 16}, {24, 24}, {48, 32}, {120, 40}};
+
+// Of a bitmap's file: its header and its pixels.
+static unsigned file_size(const uint8_t *size)
+{
+    return 2 + (size[0] * size[1] + 7u) / 8u;
+}
+
+// The file, each byte followed by the host's confirmation.
+static void bitmap_file(Stream *s, const uint8_t *size)
+{
+    unsigned i;
+    PUT(s, size[0], CONFIRM, size[1], CONFIRM);
+    for (i = 2; i < file_size(size); i++)
+        PUT(s, pick(256), CONFIRM);
+}
+
+// Bitmaps 1 to BITMAPS.
 static void upload(Stream *s)
 {
-    static const uint8_t sizes[BITMAPS][2] = {{16, 16}, {24, 24}, {48, 32}, {120, 40}};
-    unsigned n, i;
+    unsigned n;
     for (n = 0; n < BITMAPS; n++) {
-        uint8_t width = sizes[n][0], height = sizes[n][1];
-        unsigned data = (width * height + 7u) / 8u, size = data + 2;
+        unsigned size = file_size(sizes[n]);
         PUT(s, COMMAND, UPLOAD_BITMAP, (uint8_t)(n + 1), (uint8_t)(size % 256), (uint8_t)(size / 256));
-        PUT(s, width, CONFIRM, height, CONFIRM);
-        for (i = 0; i < data; i++)
-            PUT(s, pick(256), CONFIRM);
+        bitmap_file(s, sizes[n]);
+    }
+}
+
+// The same of the newer edition, bitmaps 257 to 256 + BITMAPS.
+static void newer_upload(Stream *s)
+{
+    unsigned n;
+    for (n = 0; n < BITMAPS; n++) {
+        unsigned size = file_size(sizes[n]);
+        PUT(s, COMMAND, UPLOAD_BITMAP, (uint8_t)(n + 1), 1, (uint8_t)(size % 256), (uint8_t)(size / 256), 0, 0);
+        bitmap_file(s, sizes[n]);
     }
 }
 
@@ -180,23 +204,44 @@ static void upload_and_delete(Stream *s)
     delete_uploaded(s);
 }
 
+static void newer_upload_and_delete(Stream *s)
+{
+    unsigned n;
+    newer_upload(s);
+    for (n = 0; n < BITMAPS; n++)
+        PUT(s, COMMAND, DELETE_FILE, BITMAP, (uint8_t)(n + 1), 1);
+}
+
+static void newer_bitmaps(Stream *s)
+{
+    unsigned i;
+    for (i = 0; i < 48; i++) {
+        PUT(s, COMMAND, SHOW_BITMAP, (uint8_t)(i % BITMAPS + 1), 1);
+        point(s);
+    }
+}
+
 static void nothing(Stream *s)
 {
     (void)s;
 }
 
+enum { OLDER = DISPLAY_OLDER_EDITION, NEWER = DISPLAY_NEWER_EDITION };
+
 const Family families[] = {
-    {"text", nothing, text_page, 1},
-    {"text that scrolls", nothing, scrolled_text, 1},
-    {"missing letters", nothing, missing_letters, 1},
-    {"bars", nothing, bars, 1},
-    {"rectangles and frames", nothing, rectangles, 1},
-    {"lines", nothing, lines, 1.2},
-    {"pixels", nothing, pixels, 3},
-    {"strips", text_page, strips, 1},
-    {"saved bitmaps", upload, saved_bitmaps, 1},
-    {"in-line bitmaps", nothing, inline_bitmaps, 1.2},
-    {"upload and delete", nothing, upload_and_delete, 3},
+    {"text", OLDER, nothing, text_page, 1},
+    {"text that scrolls", OLDER, nothing, scrolled_text, 1},
+    {"missing letters", OLDER, nothing, missing_letters, 1},
+    {"bars", OLDER, nothing, bars, 1},
+    {"rectangles and frames", OLDER, nothing, rectangles, 1},
+    {"lines", OLDER, nothing, lines, 1.2},
+    {"pixels", OLDER, nothing, pixels, 3},
+    {"strips", OLDER, text_page, strips, 1},
+    {"saved bitmaps", OLDER, upload, saved_bitmaps, 1},
+    {"in-line bitmaps", OLDER, nothing, inline_bitmaps, 1.2},
+    {"upload and delete", OLDER, nothing, upload_and_delete, 3},
+    {"saved bitmaps, newer edition", NEWER, newer_upload, newer_bitmaps, 1},
+    {"upload and delete, newer edition", NEWER, nothing, newer_upload_and_delete, 3},
 };
 const size_t family_count = sizeof families / sizeof *families;
 

@@ -13,9 +13,11 @@ typedef struct {
 
 typedef void Build(Stream *);
 
-// A family: what is sent before it, what is timed, and how many times plain C's time it may take.
+// A family: the edition of its hosts, what is sent before it, what is timed, and how many times plain C's time it may
+// take.
 typedef struct {
     const char *name;
+    unsigned edition;
     Build *setup, *timed;
     double goal;
 } Family;
@@ -27,10 +29,11 @@ extern const size_t family_count;
 void put(Stream *s, const uint8_t *bytes, size_t length);
 #define PUT(s, ...) put(s, (const uint8_t[]){__VA_ARGS__}, sizeof(const uint8_t[]){__VA_ARGS__})
 
-// Two rounds of everything, in an order in which pages are built.
+// Two rounds of everything, in an order in which pages are built; of the older edition.
 void mixed(Stream *s);
 
-// Every command of the display, with a font in the store whose characters wrap and scroll: what may reach deep.
+// Every command of the display, with a font in the store whose characters wrap and scroll: what may reach deep; of the
+// older edition.
 void every_command(Stream *s);
 
 #endif

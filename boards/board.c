@@ -15,7 +15,7 @@ static Slice saved[SLICES];
 Slice lent[SLICES];
 uint64_t hash;
 unsigned long calls, answers[CALL_KINDS][8];
-unsigned long refusals[256];
+unsigned long refusals[256], dropped;
 
 // What a call writes to, between neighbours that it must not write to.
 typedef struct {
@@ -110,11 +110,12 @@ static uint8_t *pointer(unsigned slice)
 }
 #define LENT(slice) pointer(slice), lent[slice].length
 
-uint32_t call_start(uint32_t height)
+uint32_t call_start(uint32_t height, uint32_t edition)
 {
     Outputs none;
+    uint32_t answer = display_start(height, edition, LENT(SCREEN), LENT(STORE), LENT(STATE), LENT(QUEUE));
     memset(&none, GARBAGE, sizeof none);
-    return note(START, display_start(height, LENT(SCREEN), LENT(STORE), LENT(STATE), LENT(QUEUE)), &none, STORE);
+    return note(START, answer, &none, STORE);
 }
 
 uint32_t call_feed(const uint8_t *piece, size_t length, size_t room, size_t *consumed)
@@ -127,6 +128,17 @@ uint32_t call_feed(const uint8_t *piece, size_t length, size_t room, size_t *con
                           &outputs.replied);
     *consumed = (size_t)outputs.consumed;
     return note(FEED, answer, &outputs, STORE);
+}
+
+uint32_t call_time(uint32_t milliseconds, size_t room)
+{
+    Outputs outputs;
+    uint32_t answer;
+    memset(&outputs, GARBAGE, sizeof outputs);
+    lent[REPLIES].length = room;
+    answer = display_time(LENT(SCREEN), LENT(STORE), LENT(STATE), milliseconds, LENT(REPLIES), &outputs.replied);
+    dropped += answer == DISPLAY_OK && outputs.replied > 0;
+    return note(TIME, answer, &outputs, STORE);
 }
 
 uint32_t call_arrive(uint8_t byte)

@@ -1,4 +1,4 @@
-// One display's memory, the four calls on it, and a hash of all that they answer and leave.
+// One display's memory, the five calls on it, and a hash of all that they answer and leave.
 #ifndef BOARD_H
 #define BOARD_H
 
@@ -25,9 +25,10 @@ void save_memory(void);
 void restore_memory(void);
 
 // The calls. Each goes into the hash: its answer, its outputs and what stands beside them, and the memory afterwards.
-enum { START, FEED, ARRIVE, TAKE, CALL_KINDS };
-uint32_t call_start(uint32_t height);
+enum { START, FEED, TIME, ARRIVE, TAKE, CALL_KINDS };
+uint32_t call_start(uint32_t height, uint32_t edition);
 uint32_t call_feed(const uint8_t *piece, size_t length, size_t room, size_t *consumed);
+uint32_t call_time(uint32_t milliseconds, size_t room);
 uint32_t call_arrive(uint8_t byte);
 uint32_t call_take(uint8_t *byte);
 
@@ -37,5 +38,6 @@ void begin_hash(void);
 
 extern unsigned long calls, answers[CALL_KINDS][8];
 extern unsigned long refusals[256]; // calls after which a number is the last refusal, and was not before
+extern unsigned long dropped;       // times that ended an upload
 
 #endif

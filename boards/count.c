@@ -38,6 +38,11 @@ static void feed_nothing(void)
     feed(NULL, 0);
 }
 
+static void pass_a_millisecond(void)
+{
+    pass_time(1);
+}
+
 static void feed_in(size_t piece)
 {
     size_t at;
@@ -103,7 +108,7 @@ static void print_family(const char *name)
 
 int main(void)
 {
-    unsigned long checks, line, obeyed, whole;
+    unsigned long checks, line, time, obeyed, whole;
     in_vain = instructions(nothing);
     printf("Instructions on a Cortex-M4, counted by the emulator, with the loop around the calls.\n\n"
            "| What | Instructions | Goal | Today |\n|---|---|---|---|\n");
@@ -117,9 +122,11 @@ int main(void)
     start();
     line = instructions(queue_byte);
     checks = instructions(feed_nothing);
+    time = instructions(pass_a_millisecond);
     print_row("mixed, a byte, in pieces of 4096", obeyed);
     print_row("arrive and take, a byte", line);
     print_row("a feed of no bytes", checks);
+    print_row("a time", time);
     printf("| mixed, a byte that arrives, is taken and is fed in pieces of %d | %lu | %d | %s |\n", PIECE, whole, GOAL,
            whole <= GOAL ? "met" : "not met");
     printf("\nOf these %lu, arrive and take are %lu, a sixteenth of a feed's checks is %lu, and the rest is the byte "

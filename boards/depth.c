@@ -1,5 +1,6 @@
 // Stack of the calls: the stack below is painted with a pattern, and what is no longer the pattern was used. Counted
 // from an empty function on, so with the call's arguments and a small caller's frame.
+#include "commands.h"
 #include "subject.h"
 
 #include <stdio.h>
@@ -37,6 +38,11 @@ static void nothing(void)
 static void feed_stream(void)
 {
     feed(stream.bytes, stream.length);
+}
+
+static void drop_upload(void)
+{
+    pass_time(DISPLAY_UPLOAD_TIMEOUT);
 }
 
 static void arrive_all(void)
@@ -77,11 +83,20 @@ static size_t depth_of_feed(void)
     return more(depth, depth_of(feed_stream));
 }
 
+// Of a time that ends an upload.
+static size_t depth_of_time(void)
+{
+    start();
+    feed((const uint8_t[]){COMMAND, UPLOAD_BITMAP, 7, 3, 0}, 5);
+    return depth_of(drop_upload);
+}
+
 int main(void)
 {
-    size_t none = depth_of(nothing), fed = depth_of_feed(), started = depth_of(start);
+    size_t none = depth_of(nothing), fed = depth_of_feed(), timed = depth_of_time(), started = depth_of(start);
     size_t arrived = depth_of(arrive_all), taken = depth_of(take_all);
     printf("| stack of display_feed | %lu |\n", (unsigned long)(fed - none));
+    printf("| stack of display_time | %lu |\n", (unsigned long)(timed - none));
     printf("| stack of display_start | %lu |\n", (unsigned long)(started - none));
     printf("| stack of display_arrive | %lu |\n", (unsigned long)(arrived - none));
     printf("| stack of display_take | %lu |\n", (unsigned long)(taken - none));

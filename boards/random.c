@@ -5,6 +5,7 @@
 
 static uint64_t seed;
 static unsigned rows; // of the screen
+static int newer;     // the edition
 
 void set_seed(uint32_t number)
 {
@@ -35,13 +36,31 @@ static void any_bytes(Stream *s, unsigned count)
         PUT(s, any_byte());
 }
 
+// Of a file: one of few, so that it is found again. The newer edition has a few more, and two beyond the range.
+static unsigned any_number(void)
+{
+    unsigned number = below(6);
+    return newer && below(3) == 0 ? number + 256 * below(4) + 252 : number;
+}
+
+static void put_number(Stream *s, unsigned number)
+{
+    PUT(s, (uint8_t)(number % 256));
+    if (newer)
+        PUT(s, (uint8_t)(number / 256));
+}
+
 // Each byte confirmed, but for one now and then that breaks the upload off. One file in four is spoilt.
-static void upload(Stream *s, uint8_t code, uint8_t number, uint8_t *file, unsigned size)
+static void upload(Stream *s, uint8_t code, unsigned number, uint8_t *file, unsigned size)
 {
     unsigned i, place = below(below(2) > 0 ? 8 : size) % size;
     if (below(4) == 0)
         file[place] = any_byte();
-    PUT(s, COMMAND, code, number, (uint8_t)(size % 256), (uint8_t)(size / 256));
+    PUT(s, COMMAND, code);
+    put_number(s, number);
+    PUT(s, (uint8_t)(size % 256), (uint8_t)(size / 256));
+    if (newer)
+        PUT(s, 0, 0);
     for (i = 0; i < size; i++) {
         PUT(s, file[i]);
         PUT(s, below(400) > 0 ? CONFIRM : CONFIRM + 1);
@@ -50,14 +69,16 @@ static void upload(Stream *s, uint8_t code, uint8_t number, uint8_t *file, unsig
 
 static void upload_bitmap(Stream *s)
 {
-    uint8_t file[2 + 40 * 2], number = (uint8_t)below(6);
-    unsigned i, width = 1 + below(40), height = 1 + below(16), size = 2 + (width * height + 7) / 8;
+    uint8_t file[2 + 40 * 2];
+    unsigned i, number = any_number(), width = 1 + below(40), height = 1 + below(16);
+    unsigned size = 2 + (width * height + 7) / 8;
     file[0] = (uint8_t)width;
     file[1] = (uint8_t)height;
     for (i = 2; i < size; i++)
         file[i] = (uint8_t)below(256);
     upload(s, UPLOAD_BITMAP, number, file, size);
-    PUT(s, COMMAND, SHOW_BITMAP, number);
+    PUT(s, COMMAND, SHOW_BITMAP);
+    put_number(s, number);
     any_bytes(s, 2);
 }
 
@@ -67,9 +88,9 @@ static void upload_font(Stream *s)
 {
     enum { MOST = 6, HEADER = 4 + 3 * MOST, GLYPH = 17 };
     static const uint8_t heights[] = {63, 64, 65, 127, 128, 129};
-    uint8_t file[HEADER + MOST * GLYPH], number = (uint8_t)below(6);
-    unsigned i, count = 1 + below(MOST), height = 1 + below(12), first = below(2) > 0 ? '0' : 'A';
-    unsigned size = 4 + 3 * count, widest = 8;
+    uint8_t file[HEADER + MOST * GLYPH];
+    unsigned i, number = any_number(), count = 1 + below(MOST), height = 1 + below(12);
+    unsigned first = below(2) > 0 ? '0' : 'A', size = 4 + 3 * count, widest = 8;
     if (below(4) == 0) {
         height = heights[below(sizeof heights)];
         widest = 1;
@@ -87,7 +108,9 @@ static void upload_font(Stream *s)
             file[size++] = (uint8_t)below(256);
     }
     upload(s, UPLOAD_FONT, number, file, size);
-    PUT(s, COMMAND, CHOOSE_FONT, number, file[2], file[3]);
+    PUT(s, COMMAND, CHOOSE_FONT);
+    put_number(s, number);
+    PUT(s, file[2], file[3]);
 }
 
 // Corners on the screen and in their order.
@@ -133,10 +156,22 @@ static void draw(Stream *s)
 static void text(Stream *s)
 {
     unsigned count = 1 + below(30), first = below(4) > 0 ? '0' : ' ', most = first == '0' ? 10 : 95;
-    if (below(4) == 0)
-        PUT(s, COMMAND, CHOOSE_FONT, below(2) > 0 ? 1 : any_byte());
+    if (below(4) == 0) {
+        PUT(s, COMMAND, CHOOSE_FONT);
+        put_number(s, below(2) > 0 ? 1 : any_byte());
+    }
     while (count-- > 0)
         PUT(s, (uint8_t)(first + below(most)));
+}
+
+// Bytes that a command has more in the newer edition: of a number one, of a size two.
+static unsigned more_bytes(uint8_t code)
+{
+    if (!newer)
+        return 0;
+    if (code == UPLOAD_FONT || code == UPLOAD_BITMAP)
+        return 3;
+    return code == CHOOSE_FONT || code == SHOW_BITMAP || code == DELETE_FILE;
 }
 
 // A command with any arguments, as many as it takes.
@@ -155,12 +190,13 @@ static void any_command(Stream *s)
     if (command[0] == PURGE && below(4) == 0)
         PUT(s, 89, 33);
     else
-        any_bytes(s, command[1]);
+        any_bytes(s, command[1] + more_bytes(command[0]));
 }
 
-void random_stream(Stream *s, size_t length, unsigned height)
+void random_stream(Stream *s, size_t length, unsigned height, unsigned edition)
 {
     rows = height;
+    newer = edition == DISPLAY_NEWER_EDITION;
     s->length = 0;
     while (s->length < length) {
         unsigned kind = below(16);

@@ -19,8 +19,8 @@ static void expect_ok(uint32_t answer)
 void start(void)
 {
     memset(store, 0, sizeof store);
-    expect_ok(display_start(DISPLAY_LOW_HEIGHT, screen, sizeof screen, store, sizeof store, state, sizeof state, queue,
-                            sizeof queue));
+    expect_ok(display_start(DISPLAY_LOW_HEIGHT, DISPLAY_OLDER_EDITION, screen, sizeof screen, store, sizeof store,
+                            state, sizeof state, queue, sizeof queue));
 }
 
 void feed(const uint8_t *piece, size_t length)
@@ -28,6 +28,13 @@ void feed(const uint8_t *piece, size_t length)
     display_length consumed, replied;
     expect_ok(display_feed(screen, sizeof screen, store, sizeof store, state, sizeof state, piece, length, replies,
                            sizeof replies, &consumed, &replied));
+}
+
+void pass_time(uint32_t milliseconds)
+{
+    display_length replied;
+    expect_ok(display_time(screen, sizeof screen, store, sizeof store, state, sizeof state, milliseconds, replies,
+                           sizeof replies, &replied));
 }
 
 void arrive(uint8_t byte)

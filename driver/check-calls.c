@@ -2,7 +2,7 @@
 
 #include <stdio.h>
 
-uint32_t height;
+uint32_t height, edition = DISPLAY_OLDER_EDITION;
 Lengths right;
 Memory memory, before;
 unsigned checks, failures, strays;
@@ -22,7 +22,8 @@ void check(const char *file, int line, const char *what, unsigned long long expe
     if (expected == got)
         return;
     failures++;
-    printf("%s:%d: %lu rows: %s: expected %llu, got %llu\n", file, line, (unsigned long)height, what, expected, got);
+    printf("%s:%d: %lu rows, edition %lu: %s: expected %llu, got %llu\n", file, line, (unsigned long)height,
+           (unsigned long)edition, what, expected, got);
 }
 
 int changed(void)
@@ -65,18 +66,18 @@ static void look_behind(Lengths n)
     strays += CHANGED_BEHIND(glass) || CHANGED_BEHIND(store) || CHANGED_BEHIND(state) || CHANGED_BEHIND(queue);
 }
 
-uint32_t start_at(uint32_t rows, Lengths n)
+uint32_t start_as(uint32_t rows, uint32_t protocol, Lengths n)
 {
     uint32_t answer;
     before = memory;
-    answer = display_start(rows, LEND(glass), LEND(store), LEND(state), LEND(queue));
+    answer = display_start(rows, protocol, LEND(glass), LEND(store), LEND(state), LEND(queue));
     look_behind(n);
     return answer;
 }
 
 uint32_t start(Lengths n)
 {
-    return start_at(height, n);
+    return start_as(height, edition, n);
 }
 
 Fed feed_with(Lengths n, const uint8_t *piece, display_length length, display_length room)
@@ -87,6 +88,20 @@ Fed feed_with(Lengths n, const uint8_t *piece, display_length length, display_le
     before = memory;
     fed.answer = display_feed(LEND(glass), LEND(store), LEND(state), piece, length, lend(fed.replies, room), room,
                               &fed.consumed, &fed.replied);
+    look_behind(n);
+    strays += differ(fed.replies, garbage.replies, fed.replied, REPLIES);
+    return fed;
+}
+
+Fed pass_with(Lengths n, uint32_t milliseconds, display_length room)
+{
+    Fed fed, garbage;
+    memset(&garbage, GARBAGE, sizeof garbage);
+    fed = garbage;
+    before = memory;
+    fed.answer = display_time(LEND(glass), LEND(store), LEND(state), milliseconds, lend(fed.replies, room), room,
+                              &fed.replied);
+    fed.consumed = 0;
     look_behind(n);
     strays += differ(fed.replies, garbage.replies, fed.replied, REPLIES);
     return fed;
@@ -140,12 +155,55 @@ Fed feed(const char *file, int line, const uint8_t *piece, display_length length
     return fed;
 }
 
+Fed begin_upload(const char *file, int line, uint8_t code, unsigned number, uint32_t size)
+{
+    const uint8_t older[] = {COMMAND, code, (uint8_t)number, (uint8_t)size, (uint8_t)(size >> 8)};
+    const uint8_t newer[] = {COMMAND, code, (uint8_t)number, (uint8_t)(number >> 8), (uint8_t)size,
+                             (uint8_t)(size >> 8), (uint8_t)(size >> 16), (uint8_t)(size >> 24)};
+    Fed fed = edition == DISPLAY_NEWER_EDITION ? feed(file, line, newer, sizeof newer)
+                                               : feed(file, line, older, sizeof older);
+    check(file, line, "replies to the command of an upload", 1, fed.replied);
+    return fed;
+}
+
+void upload(const char *file, int line, uint8_t code, unsigned number, const uint8_t *bytes, display_length size)
+{
+    display_length i;
+    Fed fed = begin_upload(file, line, code, number, (uint32_t)size);
+    check(file, line, "an upload", ACCEPTED, fed.replies[0]);
+    for (i = 0; i < size; i++) {
+        fed = feed(file, line, (const uint8_t[]){bytes[i], CONFIRM}, 2);
+        check(file, line, "replies to a byte and its confirmation", 1, fed.replied);
+        check(file, line, "echo", bytes[i], fed.replies[0]);
+    }
+}
+
+void check_entries(const char *file, int line, const char *what, const uint8_t *entries, display_length length)
+{
+    check(file, line, what, 0, (unsigned)(memcmp(memory.store, entries, (size_t)length) != 0));
+    check(file, line, what, 0, memory.store[length]);
+}
+
 void check_fed(const char *file, int line, const char *what, Fed fed, uint32_t answer, display_length consumed,
                display_length replied)
 {
     check(file, line, what, answer, fed.answer);
     check(file, line, what, consumed, fed.consumed);
     check(file, line, what, replied, fed.replied);
+}
+
+void check_refused(const char *file, int line, const char *what, Lengths n, uint32_t answer, display_length room)
+{
+    check_fed(file, line, what, feed_with(n, BYTES('A'), room), answer, 0, 0);
+    check(file, line, what, 0, changed());
+    check_fed(file, line, what, pass_with(n, DISPLAY_UPLOAD_TIMEOUT, room), answer, 0, 0);
+    check(file, line, what, 0, changed());
+}
+
+void check_last_refusal(const char *file, int line, const char *what, unsigned count, unsigned last)
+{
+    check(file, line, what, count, display_refusal_count(memory.state));
+    check(file, line, what, last, display_last_refusal(memory.state));
 }
 
 void check_queued(const char *file, int line, const char *what, Queued queued, uint32_t answer, unsigned byte,
@@ -166,7 +224,6 @@ void check_queue_refused(const char *file, int line, const char *what)
 
 void check_state_refused(const char *file, int line, const char *what)
 {
-    check_fed(file, line, what, feed_with(right, BYTES('A'), REPLIES), DISPLAY_BAD_RECORD, 0, 0);
-    check(file, line, what, 0, changed());
+    check_refused(file, line, what, right, DISPLAY_BAD_RECORD, REPLIES);
     check_queue_refused(file, line, what);
 }

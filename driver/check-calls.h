@@ -1,6 +1,6 @@
-// Scaffolding of check-header.c and check-heights.c: the memory of one display, the four calls on it, and checks that
-// count themselves. Every call first copies the memory to `before`; outputs hold garbage until the library writes them;
-// a slice of length 0 is lent as a null pointer.
+// Scaffolding of check-header.c, check-heights.c, check-editions.c, check-files.c and check-time.c: the memory of one
+// display, the five calls on it, and checks that count themselves. Every call first copies the memory to `before`;
+// outputs hold garbage until the library writes them; a slice of length 0 is lent as a null pointer.
 #ifndef CHECK_CALLS_H
 #define CHECK_CALLS_H
 
@@ -15,8 +15,8 @@ enum { GARBAGE = 0xA5, REPLIES = 64 };
 enum {
     COMMAND = 254, NO_COMMAND = 1, PURGE = 33, UPLOAD_FONT = 36, FONT = 49, SERIAL_NUMBER = 52, FLOW_ON = 58,
     BACKLIGHT_ON = 66, WRAP_OFF = 68, BACKLIGHT_OFF = 70, TEXT_CELL = 71, CONTRAST = 80, UPLOAD_BITMAP = 94,
-    SHOW_BITMAP = 98, SET_BAR = 103, WRITE_BAR = 105, SET_STRIP = 106, PIXEL = 112, RECTANGLE = 120, TEXT_POINT = 121,
-    DELETE_FILE = 173
+    SHOW_BITMAP = 98, BITMAP_IN_LINE = 100, SET_BAR = 103, WRITE_BAR = 105, SET_STRIP = 106, PIXEL = 112,
+    RECTANGLE = 120, TEXT_POINT = 121, DELETE_FILE = 173
 };
 enum { ACCEPTED = 1, DECLINED = 8, CONFIRM = 1 };
 
@@ -32,6 +32,7 @@ typedef struct {
     display_length glass, store, state, queue;
 } Lengths;
 
+// A time consumes nothing.
 typedef struct {
     uint32_t answer;
     display_length consumed, replied;
@@ -43,8 +44,8 @@ typedef struct {
     uint8_t byte, beside_byte[3], signal, beside_signal[3];
 } Queued;
 
-extern uint32_t height; // of the display under test
-extern Lengths right;   // for that height, with the smallest store
+extern uint32_t height, edition; // of the display under test
+extern Lengths right;            // for that height, with the smallest store
 extern Memory memory, before;
 extern unsigned checks, failures;
 extern unsigned strays; // calls that wrote beside what they were lent, or behind their replies
@@ -68,9 +69,10 @@ void check_changes(const char *file, int line, const char *what, const uint8_t *
     check_changes(HERE, what, before.slice, memory.slice, sizeof memory.slice, OFFSETS(__VA_ARGS__))
 
 // The calls, with these lengths.
-uint32_t start_at(uint32_t rows, Lengths n);
+uint32_t start_as(uint32_t rows, uint32_t protocol, Lengths n);
 uint32_t start(Lengths n);
 Fed feed_with(Lengths n, const uint8_t *piece, display_length length, display_length room);
+Fed pass_with(Lengths n, uint32_t milliseconds, display_length room);
 Queued arrive(Lengths n, uint8_t byte);
 Queued take(Lengths n);
 
@@ -85,9 +87,26 @@ Fed feed(const char *file, int line, const uint8_t *piece, display_length length
 #define BYTES(...) (const uint8_t[]){__VA_ARGS__}, sizeof(const uint8_t[]){__VA_ARGS__}
 #define FEED(...) feed(HERE, BYTES(__VA_ARGS__))
 
+// The command that begins an upload, as hosts of the edition under test send it, and a whole upload of few bytes.
+Fed begin_upload(const char *file, int line, uint8_t code, unsigned number, uint32_t size);
+void upload(const char *file, int line, uint8_t code, unsigned number, const uint8_t *bytes, display_length size);
+#define BEGIN_UPLOAD(code, number, size) begin_upload(HERE, code, number, size)
+#define UPLOAD(code, number, ...) upload(HERE, code, number, BYTES(__VA_ARGS__))
+
+// What the directory begins with, and no more entries.
+void check_entries(const char *file, int line, const char *what, const uint8_t *entries, display_length length);
+#define CHECK_ENTRIES(what, ...) check_entries(HERE, what, BYTES(__VA_ARGS__))
+
 void check_fed(const char *file, int line, const char *what, Fed fed, uint32_t answer, display_length consumed,
                display_length replied);
 #define CHECK_FED(what, fed, answer, consumed, replied) check_fed(HERE, what, fed, answer, consumed, replied)
+
+// A feed and a time are refused with the same answer; nothing changes.
+void check_refused(const char *file, int line, const char *what, Lengths n, uint32_t answer, display_length room);
+#define CHECK_REFUSED(what, n, answer, room) check_refused(HERE, what, n, answer, room)
+
+void check_last_refusal(const char *file, int line, const char *what, unsigned count, unsigned last);
+#define CHECK_LAST_REFUSAL(what, count, last) check_last_refusal(HERE, what, count, last)
 
 void check_queued(const char *file, int line, const char *what, Queued queued, uint32_t answer, unsigned byte,
                   unsigned signal);
@@ -96,11 +115,18 @@ void check_queued(const char *file, int line, const char *what, Queued queued, u
 // Arrive and take refuse the records; nothing changes.
 void check_queue_refused(const char *file, int line, const char *what);
 
-// A feed refuses the state record too.
+// A feed and a time refuse the state record too.
 void check_state_refused(const char *file, int line, const char *what);
 
 // What depends on the height of the glass.
 void check_heights(void); // of any: unknown ones, and one mistaken for another
 void check_rows(void);    // of the one that is set
+
+// What depends on the edition: unknown ones, and one mistaken for the other.
+void check_editions(void);
+void check_files(void);       // at the height that is set, by both editions
+void check_directories(void); // at the height and the edition that are set
+
+void check_time(void); // at the height and the edition that are set
 
 #endif

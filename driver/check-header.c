@@ -13,7 +13,7 @@
 // Beyond a length of 32 bits. A refused length is refused unread, so nothing need be there.
 #define FAR ((display_length)1 << 32)
 
-// A feed is not lent the queue; arrive and take are lent the records alone.
+// A feed and a time are not lent the queue; arrive and take are lent the records alone.
 static void check_lengths_of(const char *what, Lengths n, uint32_t started, uint32_t fed)
 {
     uint32_t queued = n.queue != QUEUE || n.state != STATE ? DISPLAY_BAD_RECORD : DISPLAY_OK;
@@ -23,6 +23,8 @@ static void check_lengths_of(const char *what, Lengths n, uint32_t started, uint
     fresh();
     CHECK_FED(what, feed_with(n, BYTES('A'), REPLIES), fed, fed == DISPLAY_OK, 0);
     CHECK(what, fed == DISPLAY_OK, changed());
+    CHECK_FED(what, pass_with(n, 1, REPLIES), fed, 0, 0);
+    CHECK(what, 0, changed());
     CHECK_QUEUED(what, arrive(n, 'A'), queued, 0, DISPLAY_SIGNAL_NONE);
     CHECK(what, queued == DISPLAY_OK, changed());
     CHECK_QUEUED(what, take(n), queued, queued == DISPLAY_OK ? 'A' : 0, DISPLAY_SIGNAL_NONE);
@@ -100,10 +102,9 @@ static void check_directory(void)
     memory.store[DISPLAY_DIRECTORY_SIZE - 1] = GARBAGE;
     CHECK("a stray byte at its end", DISPLAY_BAD_DIRECTORY, start(right));
     NOTHING_CHANGES("start with a broken directory");
-    CHECK_FED("a stray byte at its end", feed_with(right, BYTES('A'), REPLIES), DISPLAY_BAD_DIRECTORY, 0, 0);
-    NOTHING_CHANGES("feed with a broken directory");
+    CHECK_REFUSED("a stray byte at its end", right, DISPLAY_BAD_DIRECTORY, REPLIES);
     CHECK("a wrong record too", DISPLAY_BAD_RECORD, start(short_state));
-    CHECK_FED("a wrong record too", feed_with(short_state, BYTES('A'), REPLIES), DISPLAY_BAD_RECORD, 0, 0);
+    CHECK_REFUSED("a wrong record too", short_state, DISPLAY_BAD_RECORD, REPLIES);
 
     fresh();
     fed = FEED(COMMAND, UPLOAD_BITMAP, 3, most % 256, most / 256);
@@ -113,8 +114,7 @@ static void check_directory(void)
     CHECK("first byte of the first file", 'B', memory.store[DISPLAY_DIRECTORY_SIZE]);
     CHECK("byte behind it", GARBAGE, memory.store[DISPLAY_DIRECTORY_SIZE + 1]);
     memcpy(memory.store, BYTES(2, 3, 1, 0)); // meanwhile the directory has got a bitmap 3
-    CHECK_FED("upload of a file that is there", feed_with(right, BYTES('A'), REPLIES), DISPLAY_BAD_DIRECTORY, 0, 0);
-    NOTHING_CHANGES("upload of a file that is there");
+    CHECK_REFUSED("upload of a file that is there", right, DISPLAY_BAD_DIRECTORY, REPLIES);
 
     fresh();
     fed = FEED(COMMAND, UPLOAD_BITMAP, 3, (most + 1) % 256, (most + 1) / 256);
@@ -350,6 +350,7 @@ int main(void)
     check_all(DISPLAY_LOW_HEIGHT);
     check_all(DISPLAY_TALL_HEIGHT);
     check_heights();
+    check_editions();
     CHECK("calls that wrote beside what they were lent", 0, strays);
     if (failures != 0)
         printf("check-header: %u failed\n", failures);

@@ -22,14 +22,14 @@ static void check_unknown_at_start(uint32_t rows)
 {
     const Lengths wrong = {right.glass - 1, DISPLAY_STORE_LEAST - 1, right.state, right.queue};
     spoil();
-    CHECK("start at an unknown height", DISPLAY_BAD_RECORD, start_at(rows, right));
+    CHECK("start at an unknown height", DISPLAY_BAD_RECORD, start_as(rows, edition, right));
     NOTHING_CHANGES("start at an unknown height");
     fresh();
     FEED('A');
-    CHECK("the same, later", DISPLAY_BAD_RECORD, start_at(rows, right));
+    CHECK("the same, later", DISPLAY_BAD_RECORD, start_as(rows, edition, right));
     NOTHING_CHANGES("the same, later");
     memory.store[DISPLAY_DIRECTORY_SIZE - 1] = GARBAGE;
-    CHECK("the same, with all else wrong", DISPLAY_BAD_RECORD, start_at(rows, wrong));
+    CHECK("the same, with all else wrong", DISPLAY_BAD_RECORD, start_as(rows, 0, wrong));
     NOTHING_CHANGES("the same, with all else wrong");
 }
 
@@ -44,7 +44,7 @@ static void check_unknown_starts(void)
         check_unknown_at_start(heights[i]);
     spoil();
     for (rows = 0; rows < 2048; rows++)
-        known += start_at(rows, right) != DISPLAY_BAD_RECORD;
+        known += start_as(rows, edition, right) != DISPLAY_BAD_RECORD;
     CHECK("heights that there are", 2, known);
 }
 
@@ -60,9 +60,7 @@ static void check_unknown_in_record(void)
         memory.state[DISPLAY_STATE_HEIGHT] = (uint8_t)byte;
         check_state_refused(HERE, "unknown height in a record");
         CHECK_FED("the same, an empty piece", feed_with(right, NULL, 0, 0), DISPLAY_BAD_RECORD, 0, 0);
-        CHECK_FED("the same, with the other glass", feed_with(with_other_glass(), BYTES('A'), REPLIES),
-                  DISPLAY_BAD_RECORD, 0, 0);
-        NOTHING_CHANGES("the same, with the other glass");
+        CHECK_REFUSED("the same, with the other glass", with_other_glass(), DISPLAY_BAD_RECORD, REPLIES);
     }
 }
 
@@ -74,12 +72,11 @@ static void check_mistaken(void)
     CHECK("start with the other glass", DISPLAY_BAD_FRAMEBUFFER_SIZE, start(other));
     NOTHING_CHANGES("start with the other glass");
     fresh();
-    CHECK_FED("the other glass", feed_with(other, BYTES('A'), REPLIES), DISPLAY_BAD_FRAMEBUFFER_SIZE, 0, 0);
-    NOTHING_CHANGES("the other glass");
+    CHECK_REFUSED("the other glass", other, DISPLAY_BAD_FRAMEBUFFER_SIZE, REPLIES);
     memory.state[DISPLAY_STATE_HEIGHT] = other_height();
-    CHECK_FED("the other height", feed_with(right, BYTES('A'), REPLIES), DISPLAY_BAD_FRAMEBUFFER_SIZE, 0, 0);
-    NOTHING_CHANGES("the other height");
+    CHECK_REFUSED("the other height", right, DISPLAY_BAD_FRAMEBUFFER_SIZE, REPLIES);
     CHECK_FED("the other height and its glass", feed_with(other, BYTES('A'), REPLIES), DISPLAY_OK, 1, 0);
+    CHECK_FED("the same, a time", pass_with(other, 1, REPLIES), DISPLAY_OK, 0, 0);
     CHECK_QUEUED("the other height", arrive(right, 'A'), DISPLAY_OK, 0, DISPLAY_SIGNAL_NONE);
     CHECK_QUEUED("the other height", take(right), DISPLAY_OK, 'A', DISPLAY_SIGNAL_NONE);
 }
@@ -92,8 +89,7 @@ static void check_too_low(void)
     FEED(COMMAND, SET_BAR, 0, 0, 0, 0, 9, LOW);
     CHECK("refused", 0, display_refusal_count(memory.state));
     memory.state[DISPLAY_STATE_HEIGHT] = LOW;
-    CHECK_FED("the tall glass", feed_with(right, BYTES('A'), REPLIES), DISPLAY_BAD_FRAMEBUFFER_SIZE, 0, 0);
-    NOTHING_CHANGES("the tall glass");
+    CHECK_REFUSED("the tall glass", right, DISPLAY_BAD_FRAMEBUFFER_SIZE, REPLIES);
     set_height(LOW);
     check_state_refused(HERE, "a bar below the glass");
 }
@@ -107,45 +103,51 @@ static void check_order_of_start(void)
     n.queue--;
     spoil();
     memory.store[DISPLAY_DIRECTORY_SIZE - 1] = GARBAGE;
-    CHECK("height", DISPLAY_BAD_RECORD, start_at(height + 1, n));
-    CHECK("length of the state", DISPLAY_BAD_RECORD, start(n));
+    CHECK("height", DISPLAY_BAD_RECORD, start_as(height + 1, 0, n));
+    CHECK("length of the state", DISPLAY_BAD_RECORD, start_as(height, 0, n));
     n.state--;
-    CHECK("length of the queue", DISPLAY_BAD_RECORD, start(n));
+    CHECK("length of the queue", DISPLAY_BAD_RECORD, start_as(height, 0, n));
     n.queue++;
-    CHECK("framebuffer", DISPLAY_BAD_FRAMEBUFFER_SIZE, start(n));
+    CHECK("framebuffer", DISPLAY_BAD_FRAMEBUFFER_SIZE, start_as(height, 0, n));
     n.glass = right.glass;
-    CHECK("store", DISPLAY_BAD_STORE_SIZE, start(n));
+    CHECK("store", DISPLAY_BAD_STORE_SIZE, start_as(height, 0, n));
     n.store++;
+    CHECK("edition", DISPLAY_BAD_RECORD, start_as(height, 0, n));
+    NOTHING_CHANGES("edition");
     CHECK("directory", DISPLAY_BAD_DIRECTORY, start(n));
     NOTHING_CHANGES("directory");
     memory.store[DISPLAY_DIRECTORY_SIZE - 1] = 0;
     CHECK("nothing", DISPLAY_OK, start(n));
 }
 
-static void check_order_of_feed(void)
+// Of a feed and of a time.
+static void check_order_of_refusals(void)
 {
     Lengths n = with_other_glass();
     fresh();
     n.store--;
     n.state++;
     memory.state[DISPLAY_STATE_HEIGHT]++;
+    memory.state[DISPLAY_STATE_EDITION] = 0;
     memory.state[DISPLAY_STATE_BACKLIGHT_ON] = 2;
     memory.store[DISPLAY_DIRECTORY_SIZE - 1] = GARBAGE;
-    CHECK_FED("length of the state", feed_with(n, BYTES('A'), 0), DISPLAY_BAD_RECORD, 0, 0);
+    CHECK_REFUSED("length of the state", n, DISPLAY_BAD_RECORD, 0);
     n.state--;
-    CHECK_FED("height", feed_with(n, BYTES('A'), 0), DISPLAY_BAD_RECORD, 0, 0);
+    CHECK_REFUSED("height", n, DISPLAY_BAD_RECORD, 0);
     memory.state[DISPLAY_STATE_HEIGHT]--;
-    CHECK_FED("framebuffer", feed_with(n, BYTES('A'), 0), DISPLAY_BAD_FRAMEBUFFER_SIZE, 0, 0);
+    CHECK_REFUSED("framebuffer", n, DISPLAY_BAD_FRAMEBUFFER_SIZE, 0);
     n.glass = right.glass;
-    CHECK_FED("store", feed_with(n, BYTES('A'), 0), DISPLAY_BAD_STORE_SIZE, 0, 0);
+    CHECK_REFUSED("store", n, DISPLAY_BAD_STORE_SIZE, 0);
     n.store++;
-    CHECK_FED("the rest of the record", feed_with(n, BYTES('A'), 0), DISPLAY_BAD_RECORD, 0, 0);
+    CHECK_REFUSED("edition and the rest of the record", n, DISPLAY_BAD_RECORD, 0);
     memory.state[DISPLAY_STATE_BACKLIGHT_ON] = 1;
-    CHECK_FED("directory", feed_with(n, BYTES('A'), 0), DISPLAY_BAD_DIRECTORY, 0, 0);
+    CHECK_REFUSED("edition", n, DISPLAY_BAD_RECORD, 0);
+    memory.state[DISPLAY_STATE_EDITION] = (uint8_t)edition;
+    CHECK_REFUSED("directory", n, DISPLAY_BAD_DIRECTORY, 0);
     memory.store[DISPLAY_DIRECTORY_SIZE - 1] = 0;
-    CHECK_FED("reply room", feed_with(n, BYTES('A'), 0), DISPLAY_NO_REPLY_ROOM, 0, 0);
-    NOTHING_CHANGES("reply room");
+    CHECK_REFUSED("reply room", n, DISPLAY_NO_REPLY_ROOM, 0);
     CHECK_FED("nothing", feed_with(n, BYTES('A'), DISPLAY_REPLY_ROOM), DISPLAY_OK, 1, 0);
+    CHECK_FED("nothing", pass_with(n, 1, DISPLAY_REPLY_ROOM), DISPLAY_OK, 0, 0);
 }
 
 // The records of the two starts differ in the height and the scroll row alone, and in both by the height.
@@ -184,7 +186,7 @@ void check_heights(void)
         check_unknown_in_record();
         check_mistaken();
         check_order_of_start();
-        check_order_of_feed();
+        check_order_of_refusals();
     }
     check_too_low();
     check_height_kept();

@@ -3,22 +3,27 @@
 
 #include <stdio.h>
 
-static void check_refused_start(uint32_t rows, display_length length, uint32_t answer)
+static void check_refused_start_as(uint32_t rows, uint32_t protocol, display_length length, uint32_t answer)
 {
     static uint8_t before[sizeof store];
     static Port port_before;
     unsigned calls_before = calls;
     memcpy(before, store, sizeof store);
     port_before = port;
-    CHECK("start", answer, start_at(rows, length));
+    CHECK("start", answer, start_as(rows, protocol, length));
     CHECK("framebuffer changed", 0, memcmp(port_before.framebuffer, port.framebuffer, sizeof port.framebuffer) != 0);
     CHECK("state changed", 0, memcmp(port_before.state, port.state, sizeof port.state) != 0);
     CHECK("queue changed", 0, memcmp(port_before.queue, port.queue, sizeof port.queue) != 0);
     RECEIVE('A');
-    CHECK("round after a refused start", answer, poll());
+    CHECK("round after a refused start", answer, poll_after(1));
     CHECK("calls after a refused start", 0, calls - calls_before);
     CHECK("sent after a refused start", 0, host.count);
     CHECK("store changed", 0, memcmp(before, store, sizeof store) != 0);
+}
+
+static void check_refused_start(uint32_t rows, display_length length, uint32_t answer)
+{
+    check_refused_start_as(rows, edition, length, answer);
 }
 
 static void check_start(void)
@@ -55,6 +60,30 @@ static void check_heights(void)
     RECEIVE(COMMAND, PIXEL, 0, (uint8_t)(height - 1), COMMAND, PIXEL, 1, (uint8_t)height);
     drain();
     CHECK("the last row", 0x80, port.framebuffer[(height - 1) * DISPLAY_STRIDE]);
+}
+
+// Unknown editions come behind the store's size and ahead of its directory.
+static void check_editions(void)
+{
+    static const uint32_t unknown[] = {0, 3, 255, 256, 257, 258, 0x80000001, UINT32_MAX};
+    static const uint32_t known[] = {DISPLAY_NEWER_EDITION, DISPLAY_OLDER_EDITION};
+    size_t i;
+    fresh();
+    store[DISPLAY_DIRECTORY_SIZE - 1] = 1;
+    for (i = 0; i < sizeof unknown / sizeof *unknown; i++) {
+        check_refused_start_as(height, unknown[i], DISPLAY_STORE_LEAST, DISPLAY_BAD_RECORD);
+        check_refused_start_as(height, unknown[i], DISPLAY_STORE_LEAST - 1, DISPLAY_BAD_STORE_SIZE);
+    }
+    store[DISPLAY_DIRECTORY_SIZE - 1] = 0;
+    for (i = 0; i < sizeof known / sizeof *known; i++) {
+        CHECK("start", DISPLAY_OK, start_as(height, known[i], DISPLAY_STORE_LEAST));
+        CHECK("edition", known[i], display_edition(port.state));
+    }
+    CHECK("start", DISPLAY_OK, start_as(height, DISPLAY_NEWER_EDITION, DISPLAY_STORE_LEAST));
+    RECEIVE(COMMAND, UPLOAD_BITMAP, 44, 1, 3, 0, 0, 0, 3, CONFIRM, 1, CONFIRM, 0xA0, CONFIRM);
+    drain();
+    CHECK_BYTES("replies of a newer upload", &host, BYTES(ACCEPTED, 3, 1, 0xA0));
+    CHECK("directory", 0, memcmp(store, BYTES(4, 44, 1, 3, 0, 0, 0, 0)) != 0);
 }
 
 static unsigned black_pixels(void)
@@ -159,6 +188,9 @@ static void check_bounded_round(void)
     CHECK("no take for nothing", 0, answers[DISPLAY_QUEUE_EMPTY]);
     CHECK("calls of a round: arrival, take, feed", 60 - 3, striking);
     CHECK("bytes for the next", 3, port_waiting(&port));
+    poll_after(1);
+    CHECK("of the next: three arrivals, time, three takes, feed", 60 - 3 - 8, striking);
+    CHECK("bytes for the one after it", 8, port_waiting(&port));
     striking = 0;
     interrupt = NULL;
     drain();
@@ -177,6 +209,11 @@ static void damage_height(void)
 static void mistake_height(void)
 {
     port.state[DISPLAY_STATE_HEIGHT] = height == DISPLAY_LOW_HEIGHT ? DISPLAY_TALL_HEIGHT : DISPLAY_LOW_HEIGHT;
+}
+
+static void damage_edition(void)
+{
+    port.state[DISPLAY_STATE_EDITION] = 0;
 }
 
 static void damage_queue(void)
@@ -201,9 +238,10 @@ static void read_again(void)
     allowance = calls == last_call ? WIRE : 0;
 }
 
-// Damage is done while replies wait that the host has not read, and `waiting` more bytes. The call that sees it is the
-// last one: the host would read from then on, and gets nothing.
-static void check_fault(void (*damage)(void), size_t waiting, uint32_t answer, unsigned calls_left)
+// Damage is done while replies wait that the host has not read, and `waiting` more bytes; then so many milliseconds
+// pass. The call that sees it is the last one: the host would read from then on, and gets nothing.
+static void check_fault(void (*damage)(void), size_t waiting, uint32_t milliseconds, uint32_t answer,
+                        unsigned calls_left)
 {
     static Port damaged;
     static uint8_t files[sizeof store];
@@ -217,7 +255,7 @@ static void check_fault(void (*damage)(void), size_t waiting, uint32_t answer, u
     memcpy(files, store, sizeof store);
     last_call = calls + calls_left;
     interrupt = read_again;
-    CHECK("fault", answer, poll());
+    CHECK("fault", answer, poll_after(milliseconds));
     interrupt = NULL;
     CHECK("framebuffer", 0, memcmp(damaged.framebuffer, port.framebuffer, sizeof port.framebuffer) != 0);
     CHECK("state", 0, memcmp(damaged.state, port.state, sizeof port.state) != 0);
@@ -253,12 +291,18 @@ static void check_faults(void)
     check_fault_at_take(damage_state);
     check_fault_at_take(damage_height);
     check_fault_at_take(damage_queue);
-    check_fault(damage_state, 3, DISPLAY_BAD_RECORD, 1); // seen by the first arrival
-    check_fault(damage_height, 3, DISPLAY_BAD_RECORD, 1);
-    check_fault(damage_queue, 3, DISPLAY_BAD_RECORD, 1);
-    check_fault(damage_directory, 3, DISPLAY_BAD_DIRECTORY, 3 + 3 + 1); // by the feed after arrivals and takes
-    check_fault(damage_length, 3, DISPLAY_BAD_STORE_SIZE, 3 + 3 + 1);
-    check_fault(mistake_height, 3, DISPLAY_BAD_FRAMEBUFFER_SIZE, 3 + 3 + 1);
+    check_fault(damage_state, 3, 0, DISPLAY_BAD_RECORD, 1); // seen by the first arrival
+    check_fault(damage_height, 3, 0, DISPLAY_BAD_RECORD, 1);
+    check_fault(damage_queue, 3, 1, DISPLAY_BAD_RECORD, 1);
+    check_fault(damage_directory, 3, 0, DISPLAY_BAD_DIRECTORY, 3 + 3 + 1); // by the feed after arrivals and takes
+    check_fault(damage_length, 3, 0, DISPLAY_BAD_STORE_SIZE, 3 + 3 + 1);
+    check_fault(mistake_height, 3, 0, DISPLAY_BAD_FRAMEBUFFER_SIZE, 3 + 3 + 1);
+    check_fault(damage_directory, 3, 1, DISPLAY_BAD_DIRECTORY, 3 + 1); // by the time after the arrivals
+    check_fault(damage_length, 3, 1, DISPLAY_BAD_STORE_SIZE, 3 + 1);
+    check_fault(damage_state, 0, 1, DISPLAY_BAD_RECORD, 1); // by the time alone
+    check_fault(damage_height, 0, 1, DISPLAY_BAD_RECORD, 1);
+    check_fault(mistake_height, 0, 1, DISPLAY_BAD_FRAMEBUFFER_SIZE, 1);
+    check_fault(damage_edition, 0, 1, DISPLAY_BAD_RECORD, 1);
 }
 
 static void check_all(uint32_t rows)
@@ -266,11 +310,13 @@ static void check_all(uint32_t rows)
     height = rows;
     check_start();
     check_heights();
+    check_editions();
     check_upload();
     check_silent_host();
     check_losses();
     check_bounded_round();
     check_faults();
+    check_clock();
     check_flow();
     check_streams();
 }

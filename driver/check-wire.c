@@ -3,20 +3,22 @@
 
 #include <stdio.h>
 
-uint32_t height;
+uint32_t height, edition = DISPLAY_OLDER_EDITION, now;
 Port port;
 uint8_t store[DISPLAY_STORE_MOST + 1];
-Bytes host, replies;
+Bytes host, replies, obeyed;
 size_t allowance, unfed;
-unsigned calls, answers[8], checks, failures;
+unsigned calls, answers[8], times, checks, failures;
+uint32_t last_time;
 void (*interrupt)(void);
 
 static Bytes given;              // signals and replies
 static size_t given_by_arrivals; // length of `given` at the last arrival
 static size_t unfed_before;      // the round
 static size_t just_taken;        // since the last feed
+static uint32_t handed_in;       // the clock, as far as its time has been handed in
 static int in_call;
-static unsigned overlaps, late, hoarded, stranded, starved, overlent;
+static unsigned overlaps, late, hoarded, stranded, starved, overlent, untimely, idle;
 
 void check(const char *file, int line, const char *what, unsigned long expected, unsigned long got)
 {
@@ -24,7 +26,8 @@ void check(const char *file, int line, const char *what, unsigned long expected,
     if (expected == got)
         return;
     failures++;
-    printf("%s:%d: %lu rows: %s: expected %lu, got %lu\n", file, line, (unsigned long)height, what, expected, got);
+    printf("%s:%d: %lu rows, edition %lu: %s: expected %lu, got %lu\n", file, line, (unsigned long)height,
+           (unsigned long)edition, what, expected, got);
 }
 
 void check_bytes(const char *file, int line, const char *what, const Bytes *got, const uint8_t *expected, size_t count)
@@ -75,17 +78,17 @@ static void look_at(const uint8_t *glass, display_length glass_length)
     overlent += glass != port.framebuffer || glass_length > sizeof port.framebuffer;
 }
 
-uint32_t __real_display_start(uint32_t, uint8_t *, display_length, uint8_t *, display_length, uint8_t *, display_length,
-                              uint8_t *, display_length);
+uint32_t __real_display_start(uint32_t, uint32_t, uint8_t *, display_length, uint8_t *, display_length, uint8_t *,
+                              display_length, uint8_t *, display_length);
 uint32_t __real_display_arrive(const uint8_t *, display_length, uint8_t *, display_length, uint8_t, uint8_t *);
 uint32_t __real_display_take(const uint8_t *, display_length, uint8_t *, display_length, uint8_t *, uint8_t *);
 
-uint32_t __wrap_display_start(uint32_t rows, uint8_t *glass, display_length glass_length, uint8_t *files,
-                              display_length files_length, uint8_t *state, display_length state_length, uint8_t *queue,
-                              display_length queue_length)
+uint32_t __wrap_display_start(uint32_t rows, uint32_t protocol, uint8_t *glass, display_length glass_length,
+                              uint8_t *files, display_length files_length, uint8_t *state, display_length state_length,
+                              uint8_t *queue, display_length queue_length)
 {
     look_at(glass, glass_length);
-    return __real_display_start(rows, glass, glass_length, files, files_length, state, state_length, queue,
+    return __real_display_start(rows, protocol, glass, glass_length, files, files_length, state, state_length, queue,
                                 queue_length);
 }
 
@@ -101,9 +104,30 @@ uint32_t __wrap_display_feed(uint8_t *glass, display_length glass_length, uint8_
     answer = __real_display_feed(glass, glass_length, files, files_length, state, state_length, piece, piece_length, to,
                                  to_length, consumed, replied);
     append(&replies, to, (size_t)*replied);
+    append(&obeyed, piece, (size_t)*consumed);
     starved += to_length < DISPLAY_REPLY_ROOM;
+    untimely += handed_in != now;
     unfed -= (size_t)*consumed;
     just_taken = 0;
+    return leave(answer, to, (size_t)*replied);
+}
+
+uint32_t __wrap_display_time(const uint8_t *glass, display_length glass_length, const uint8_t *files,
+                             display_length files_length, uint8_t *state, display_length state_length,
+                             uint32_t milliseconds, uint8_t *to, display_length to_length, display_length *replied)
+{
+    uint32_t answer;
+    look_at(glass, glass_length);
+    enter();
+    answer = __real_display_time(glass, glass_length, files, files_length, state, state_length, milliseconds, to,
+                                 to_length, replied);
+    append(&replies, to, (size_t)*replied);
+    starved += to_length < DISPLAY_REPLY_ROOM;
+    idle += milliseconds == 0;
+    times++;
+    last_time = milliseconds;
+    if (answer == DISPLAY_OK)
+        handed_in = milliseconds == UINT32_MAX ? now : handed_in + milliseconds; // the largest stands for any larger
     return leave(answer, to, (size_t)*replied);
 }
 
@@ -130,17 +154,19 @@ uint32_t __wrap_display_take(const uint8_t *state, display_length state_length, 
     return leave(answer, signal, *signal != DISPLAY_SIGNAL_NONE);
 }
 
-uint32_t start_at(uint32_t rows, display_length store_length)
+uint32_t start_as(uint32_t rows, uint32_t protocol, display_length store_length)
 {
-    host.count = given.count = replies.count = given_by_arrivals = unfed = just_taken = 0;
+    host.count = given.count = replies.count = obeyed.count = given_by_arrivals = unfed = just_taken = 0;
     allowance = WIRE;
+    times = 0;
+    handed_in = now;
     memset(answers, 0, sizeof answers);
-    return port_start(&port, rows, store, store_length, host_reads, &host);
+    return port_start(&port, rows, protocol, store, store_length, host_reads, &host, now);
 }
 
 uint32_t start(display_length store_length)
 {
-    return start_at(height, store_length);
+    return start_as(height, edition, store_length);
 }
 
 void fresh(void)
@@ -170,10 +196,16 @@ uint32_t poll(void)
 {
     uint32_t answer;
     unfed_before = unfed;
-    answer = port_poll(&port);
+    answer = port_poll(&port, now);
     late += answer == DISPLAY_OK && allowance > 0 && host.count < given.count;
     stranded += answer == DISPLAY_OK && just_taken > 0;
     return answer;
+}
+
+uint32_t poll_after(uint32_t milliseconds)
+{
+    now += milliseconds;
+    return poll();
 }
 
 // Of the framebuffer only the rows of the glass are used.
@@ -189,9 +221,11 @@ static unsigned bytes_behind_glass(void)
 void drain(void)
 {
     unsigned rounds = 0;
-    while ((port_waiting(&port) > 0 || host.count < given.count) && rounds < WIRE && poll() == DISPLAY_OK)
+    while ((port_waiting(&port) > 0 || host.count < given.count || handed_in != now) && rounds < WIRE &&
+           poll() == DISPLAY_OK)
         rounds++;
     CHECK("bytes left waiting", 0, port_waiting(&port));
+    CHECK("time handed in, up to what the clock shows", now, handed_in);
     CHECK_BYTES("the wire, in the order of the calls", &host, given.bytes, given.count);
     CHECK("bytes written behind the glass", 0, bytes_behind_glass());
 }
@@ -202,6 +236,8 @@ void check_manners(void)
     CHECK("rounds that kept back what the host would have read", 0, late);
     CHECK("takes while older bytes were still to be fed", 0, hoarded);
     CHECK("rounds that took bytes and fed none", 0, stranded);
-    CHECK("feeds without room for a byte", 0, starved);
+    CHECK("feeds and times without room for a reply", 0, starved);
+    CHECK("feeds ahead of time that had passed", 0, untimely);
+    CHECK("times of nothing", 0, idle);
     CHECK("calls that were lent more than the framebuffer", 0, overlent);
 }

@@ -1,5 +1,6 @@
-// Scaffolding of check-port.c, check-flow.c and check-streams.c: one display behind the port driver, a host that
-// reads no more than it is allowed, spies between driver and library, and checks that count themselves.
+// Scaffolding of check-port.c, check-clock.c, check-flow.c and check-streams.c: one display behind the port driver, a
+// host that reads no more than it is allowed, a clock that stands still unless it is moved, spies between driver and
+// library, and checks that count themselves.
 #ifndef CHECK_WIRE_H
 #define CHECK_WIRE_H
 
@@ -14,14 +15,18 @@ typedef struct {
     size_t count;
 } Bytes;
 
-extern uint32_t height; // of the display under test
+extern uint32_t height, edition; // of the display under test
+extern uint32_t now;             // what the board's clock shows
 extern Port port;
 extern uint8_t store[DISPLAY_STORE_MOST + 1];
 extern Bytes host;             // what the host has read
 extern size_t allowance;       // how much more it reads
-extern Bytes replies;          // what feeds gave, as they gave it
-extern unsigned calls;         // of feed, arrive and take
+extern Bytes replies;          // what feeds and times gave, as they gave it
+extern Bytes obeyed;           // what feeds consumed
+extern unsigned calls;         // of feed, time, arrive and take
 extern unsigned answers[8];    // of these calls, since the start
+extern unsigned times;         // calls of time, since the start
+extern uint32_t last_time;     // milliseconds of the last of them
 extern size_t unfed;           // bytes taken and not yet fed
 extern void (*interrupt)(void); // strikes during each of them
 extern unsigned checks, failures;
@@ -34,6 +39,7 @@ enum {
     DELETE_FILE = 173
 };
 enum { ACCEPTED = 1, DECLINED = 8, CONFIRM = 1 };
+enum { ERROR_PREFIX = 254, UPLOAD_TIMED_OUT = 212 }; // what an upload that is dropped answers
 enum { QUEUE = DISPLAY_QUEUE_CAPACITY, RING = PORT_RECEIVE_SIZE, PIECE = PORT_PIECE_SIZE };
 
 void check(const char *file, int line, const char *what, unsigned long expected, unsigned long got);
@@ -44,7 +50,7 @@ void check_bytes(const char *file, int line, const char *what, const Bytes *got,
 #define CHECK_BYTES(what, got, ...) check_bytes(__FILE__, __LINE__, what, got, __VA_ARGS__)
 
 // Forgets the wire, and starts the driver with a host that reads everything.
-uint32_t start_at(uint32_t rows, display_length store_length);
+uint32_t start_as(uint32_t rows, uint32_t protocol, display_length store_length);
 uint32_t start(display_length store_length);
 
 // A display just started, with an empty store of the least size.
@@ -59,18 +65,25 @@ void receive_upload(void);
 
 uint32_t poll(void);
 
+// A round so many milliseconds later.
+uint32_t poll_after(uint32_t milliseconds);
+
 // Rounds until nothing waits any more; then the host must have read what the calls gave, in their order.
 void drain(void);
 
 // What no start and no round may do, whatever the wire does: counted all along, checked at the end.
 void check_manners(void);
 
-// The library's own call, past the spies.
+// The library's own calls, past the spies.
 uint32_t __real_display_feed(uint8_t *glass, display_length glass_length, uint8_t *files, display_length files_length,
                              uint8_t *state, display_length state_length, const uint8_t *piece,
                              display_length piece_length, uint8_t *to, display_length to_length,
                              display_length *consumed, display_length *replied);
+uint32_t __real_display_time(const uint8_t *glass, display_length glass_length, const uint8_t *files,
+                             display_length files_length, uint8_t *state, display_length state_length,
+                             uint32_t milliseconds, uint8_t *to, display_length to_length, display_length *replied);
 
+void check_clock(void);
 void check_flow(void);
 void check_streams(void);
 

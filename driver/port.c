@@ -4,7 +4,8 @@
 //   - From one feed to the next, arrivals give one signal at most. It raises the mark; while flow control is on only a
 //     take lowers it, and takes are followed by a feed at once; while it is off only a feed turns it on. A byte is kept
 //     free for this signal, since arrivals cannot be put off.
-//   - A feed needs DISPLAY_REPLY_ROOM for its first byte, and writes no more than it is lent.
+//   - A feed needs DISPLAY_REPLY_ROOM for its first byte, and writes no more than it is lent. A time needs as much,
+//     writes no more, and leaves the mark as it is.
 //   - Takes without an arrival between them give one signal at most, since only an arrival raises the mark.
 #include "port.h"
 
@@ -78,6 +79,30 @@ static uint32_t take_piece(Port *port)
     return DISPLAY_OK;
 }
 
+// Sums that are too large for the number stay at its end, where every upload has long been dropped.
+static void look_at_clock(Port *port, uint32_t now)
+{
+    uint32_t passed = now - port->clock;
+    port->clock = now;
+    port->passed = passed > UINT32_MAX - port->passed ? UINT32_MAX : port->passed + passed;
+}
+
+// Time waits for the room that a feed needs too, so no byte goes ahead of it.
+static uint32_t pass_time(Port *port)
+{
+    display_length replied;
+    uint32_t answer;
+    if (port->passed == 0 || room(port) < ROOM_TO_FEED)
+        return DISPLAY_OK;
+    answer = display_time(port->framebuffer, port->framebuffer_length, port->store, port->store_length, port->state,
+                          sizeof port->state, port->passed, port->transmit + port->transmit_length,
+                          room(port) - ROOM_FOR_ARRIVALS, &replied);
+    port->transmit_length += (size_t)replied;
+    if (answer == DISPLAY_OK)
+        port->passed = 0;
+    return answer;
+}
+
 // Where the reply room ends before the piece does, the rest stays for a round that has sent some.
 static uint32_t feed_piece(Port *port)
 {
@@ -98,21 +123,23 @@ static display_length framebuffer_length(uint32_t height)
     return height <= PORT_FRAMEBUFFER_SIZE / DISPLAY_STRIDE ? height * DISPLAY_STRIDE : PORT_FRAMEBUFFER_SIZE;
 }
 
-uint32_t port_start(Port *port, uint32_t height, uint8_t *store, display_length store_length, PortSend *send,
-                    void *wire)
+uint32_t port_start(Port *port, uint32_t height, uint32_t edition, uint8_t *store, display_length store_length,
+                    PortSend *send, void *wire, uint32_t now)
 {
     port->framebuffer_length = framebuffer_length(height);
     port->store = store;
     port->store_length = store_length;
     port->send = send;
     port->wire = wire;
+    port->clock = now;
+    port->passed = 0;
     port->receive_start = 0;
     port->receive_end = 0;
     port->overruns = 0;
     port->queued = 0;
     port->piece_length = 0;
     port->transmit_length = 0;
-    port->answer = display_start(height, port->framebuffer, port->framebuffer_length, store, store_length,
+    port->answer = display_start(height, edition, port->framebuffer, port->framebuffer_length, store, store_length,
                                  RECORDS(port));
     return port->answer;
 }
@@ -129,14 +156,16 @@ void port_receive(Port *port, uint8_t byte)
 }
 
 // Sends twice: a signal does not wait for the piece to be obeyed, nor a reply for the next round.
-uint32_t port_poll(Port *port)
+uint32_t port_poll(Port *port, uint32_t now)
 {
     if (port->answer == DISPLAY_OK)
         port->answer = hand_in(port);
     if (port->answer != DISPLAY_OK)
         return port->answer;
     transmit(port);
-    if (port->piece_length == 0 && room(port) >= ROOM_TO_TAKE)
+    look_at_clock(port, now);
+    port->answer = pass_time(port);
+    if (port->answer == DISPLAY_OK && port->piece_length == 0 && room(port) >= ROOM_TO_TAKE)
         port->answer = take_piece(port);
     if (port->answer == DISPLAY_OK && port->piece_length > 0 && room(port) >= ROOM_TO_FEED)
         port->answer = feed_piece(port);

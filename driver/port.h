@@ -3,11 +3,18 @@
 //     static Port port;
 //     void uart_interrupt(void) { port_receive(&port, UART_DATA); }
 //     ...
-//     if (port_start(&port, DISPLAY_LOW_HEIGHT, store, sizeof store, uart_send, NULL) == DISPLAY_OK)
-//         while (port_poll(&port) == DISPLAY_OK)
-//             show(port.framebuffer, display_contrast(port.state), display_backlight_is_on(port.state));
+//     uint32_t answer = port_start(&port, DISPLAY_LOW_HEIGHT, DISPLAY_OLDER_EDITION, store, sizeof store, uart_send,
+//                                  NULL, ticks());
+//     while (answer == DISPLAY_OK) {
+//         show(port.framebuffer, display_contrast(port.state), display_backlight_is_on(port.state));
+//         answer = port_poll(&port, ticks());
+//     }
 //
 // Once round this loop must take less time than PORT_RECEIVE_SIZE bytes on the wire: 66 ms at 19,200 baud.
+//
+// ticks() is the board's clock: milliseconds since any moment, which run on by themselves and go from 4,294,967,295 to
+// 0. The clock may step by more than one of them at a time: a time call looks through all of the memory, and there is
+// one in each round in which the clock has gone on.
 
 #ifndef PORT_H
 #define PORT_H
@@ -44,6 +51,8 @@ typedef struct {
     PortSend *send;
     void *wire;
     uint32_t answer; // what port_poll says
+    uint32_t clock;  // what it showed when it was last looked at
+    uint32_t passed; // milliseconds up to then that are still to be handed in
 
     // The ring between handler and main loop. Each index is one byte and has one writer, so no lock is needed; volatile
     // keeps the order of the accesses. That is enough on one core.
@@ -59,20 +68,24 @@ typedef struct {
     size_t transmit_length;
 } Port;
 
-// Power-up of a glass of `height` rows, with the receive interrupt off. `wire` goes to every call of `send`.
+// Power-up of a glass of `height` rows for hosts of an edition, with the receive interrupt off. `wire` goes to every
+// call of `send`; `now` is what the clock shows.
 // The answer of display_start; for the tall glass where there is room for the low one only, BAD_FRAMEBUFFER_SIZE.
 // Unless it is DISPLAY_OK the store is as it was, and what to do about its size or its broken directory is for the
 // board to decide.
-uint32_t port_start(Port *port, uint32_t height, uint8_t *store, display_length store_length, PortSend *send,
-                    void *wire);
+uint32_t port_start(Port *port, uint32_t height, uint32_t edition, uint8_t *store, display_length store_length,
+                    PortSend *send, void *wire, uint32_t now);
 
 // A byte has come on the wire. For the interrupt handler.
 void port_receive(Port *port, uint8_t byte);
 
-// One round: hands in what has come, obeys up to PORT_PIECE_SIZE bytes, sends what the wire accepts.
+// One round: hands in what has come and the time that has passed up to `now`, obeys up to PORT_PIECE_SIZE bytes, sends
+// what the wire accepts.
+// An upload that no byte was obeyed of for DISPLAY_UPLOAD_TIMEOUT is dropped, also where that is because its host has
+// not read what was sent to it.
 // DISPLAY_OK, or why the driver has stopped: the start was refused, or memory has been damaged since. It does nothing
 // more until port_start.
-uint32_t port_poll(Port *port);
+uint32_t port_poll(Port *port, uint32_t now);
 
 // Bytes received and not yet obeyed. While they are fewer than DISPLAY_QUEUE_CAPACITY one more is sure not to be lost:
 // a board with a handshake line holds the host back by it.

@@ -29,6 +29,8 @@ static void check_usage(void)
 {
     static const char *const heights[] = {"", "0", "63", "65", "127", "129", "256", "320", "064", "0128", "+64", " 64",
                                           "128 ", "128x", "64.0", "-128", "0x40", "4294967360", "low", "--png"};
+    static const char *const editions[] = {"", "1", "2", "old", "new", "Newer", "OLDER", "newer ", " older", "newest",
+                                           "older,newer", "--png"};
     size_t i;
     Run run;
     FAILS(PLAINLY, 2, "no such option: --colour", "--colour");
@@ -41,6 +43,11 @@ static void check_usage(void)
         FAILS(PLAINLY, 2, "the height must be 64 or 128, not ", "--height", heights[i]);
         CHECK_CONTAINS(ending.err, heights[i]);
     }
+    FAILS(PLAINLY, 2, "older or newer must follow --edition", "--height", "128", "--edition");
+    for (i = 0; i < sizeof editions / sizeof *editions; i++) {
+        FAILS(PLAINLY, 2, "the edition must be older or newer, not ", "--edition", editions[i]);
+        CHECK_CONTAINS(ending.err, editions[i]);
+    }
     FAILS(OUT_CLOSED, 1, "standard output is closed", "--blocks");
     FAILS(PLAINLY, 1, "cannot read missing: No such file", "--replay", "missing");
     FAILS(PLAINLY, 1, "cannot read folder: Is a directory", "--replay", "folder");
@@ -49,6 +56,7 @@ static void check_usage(void)
     CHECK("exit status", 0, ending.status);
     CHECK_CONTAINS(ending.out, "usage: simulator");
     CHECK_CONTAINS(ending.out, "--height ROWS");
+    CHECK_CONTAINS(ending.out, "--edition NAME");
 }
 
 // Temporary files, which have six characters behind a point.

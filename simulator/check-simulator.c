@@ -260,6 +260,7 @@ int main(int count, char **arguments)
     check_live();
     check_keys();
     check_heights();
+    check_editions();
     check_ends();
     if (failures != 0)
         printf("check-simulator: %u failed\n", failures);

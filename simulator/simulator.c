@@ -9,6 +9,7 @@
 #include <stdio.h>
 #include <string.h>
 #include <sys/select.h>
+#include <time.h>
 #include <unistd.h>
 
 static Port port;
@@ -16,6 +17,7 @@ static StoreFile store;
 static Terminal terminal;
 static Options options;
 static int live; // the picture is shown as it changes, and not at the end
+static uint32_t obeyed_at; // when the display last had anything to do
 static volatile sig_atomic_t ended, png_wanted;
 
 static void catch_end(int number)
@@ -69,12 +71,22 @@ static int open_standard_files(void)
     return closed ? -1 : 0;
 }
 
+// The board's clock, in milliseconds. In a replay it stands still: a file does not say when its bytes came.
+static uint32_t clock_now(void)
+{
+    struct timespec now = {0, 0};
+    if (options.replay == NULL)
+        clock_gettime(CLOCK_MONOTONIC, &now);
+    return (uint32_t)((uint64_t)now.tv_sec * 1000 + (uint64_t)now.tv_nsec / 1000000);
+}
+
 static int start(PortSend *send)
 {
     uint32_t answer;
     if (store_open(&store, options.store) < 0)
         return -1;
-    answer = port_start(&port, options.height, store.bytes, store.length, send, &terminal);
+    answer = port_start(&port, options.height, options.edition, store.bytes, store.length, send, &terminal,
+                        clock_now());
     if (answer == DISPLAY_BAD_STORE_SIZE)
         report("%s is no store: it must have %u to %u bytes", store.path, DISPLAY_STORE_LEAST, DISPLAY_STORE_MOST);
     else if (answer == DISPLAY_BAD_DIRECTORY)
@@ -87,9 +99,9 @@ static int start(PortSend *send)
 }
 
 // One round of the driver.
-static int poll_port(void)
+static int poll_port(uint32_t now)
 {
-    uint32_t answer = port_poll(&port);
+    uint32_t answer = port_poll(&port, now);
     if (answer == DISPLAY_OK)
         return 0;
     report("the port driver has stopped with answer %lu", (unsigned long)answer);
@@ -129,7 +141,7 @@ static int replay(const char *path)
             receive(bytes, (size_t)count);
         if (count < 0 && errno == EINTR)
             count = 1;
-        if (poll_port() < 0)
+        if (poll_port(clock_now()) < 0)
             return -1;
     }
     if (file >= 0 && (count >= 0 || ended))
@@ -168,17 +180,27 @@ static void wait_for_work(int milliseconds, const sigset_t *signals)
     }
 }
 
+// No longer than until an upload would be dropped: if one is under way, its last byte was obeyed when the display last
+// had anything to do.
+static int limited(int patience, uint32_t now)
+{
+    uint32_t idle = now - obeyed_at;
+    int limit = idle < DISPLAY_UPLOAD_TIMEOUT ? (int)(DISPLAY_UPLOAD_TIMEOUT - idle) : -1;
+    return patience < 0 || (0 <= limit && limit < patience) ? limit : patience;
+}
+
 // One round of everything. Sets `*patience` to the milliseconds for which there is nothing to do.
 static int serve_round(int *patience)
 {
     uint8_t bytes[DISPLAY_QUEUE_CAPACITY];
     size_t count, waiting;
+    uint32_t now = clock_now();
     if (terminal_read(&terminal, bytes, room(), &count) < 0)
         return -1;
     receive(bytes, count);
     waiting = port_waiting(&port);
     terminal.sent = 0;
-    if (poll_port() < 0)
+    if (poll_port(now) < 0)
         return -1;
     if (store_directory_changed(&store))
         store_save(&store);
@@ -186,8 +208,11 @@ static int serve_round(int *patience)
         save_png();
     png_wanted = 0;
     ended |= screen_update(&port, patience) < 0;
-    if (count > 0 || terminal.sent > 0 || port_waiting(&port) != waiting)
+    if (count > 0 || terminal.sent > 0 || port_waiting(&port) != waiting) {
+        obeyed_at = now;
         *patience = 0;
+    }
+    *patience = limited(*patience, now);
     return 0;
 }
 

@@ -14,6 +14,7 @@ enum { DONE = 0, FAILED = 1, MISUSED = 2 };
 typedef struct {
     const char *png, *store, *replay; // files, null where not asked for
     uint32_t height;                  // rows of the glass
+    uint32_t edition;                 // of the upload protocol
     int blocks;                       // half blocks and not braille
 } Options;
 
@@ -67,7 +68,7 @@ enum { VIEW_ROW_SIZE = 3 * DISPLAY_WIDTH, VIEW_STATUS_SIZE = 160 };
 // The first `columns` characters of a row, without an end. Their length in bytes.
 size_t view_row(char *text, const uint8_t *framebuffer, unsigned row, unsigned columns, int blocks);
 
-// Contrast, backlight and counters in a line.
+// The newer edition, contrast, backlight and counters in a line.
 void view_status(char *text, const Port *port);
 
 // The whole picture and the status on standard output.

@@ -2,8 +2,9 @@
 
 use reference::builtin::built_in_font;
 use reference::case_file::{folder, read_all};
+use reference::edition::NEWER;
 use reference::glass::TALL;
-use reference::listing::listing_of_stream;
+use reference::input::Input;
 
 #[test]
 fn every_case_gives_its_listing() {
@@ -12,9 +13,13 @@ fn every_case_gives_its_listing() {
     assert!(cases.len() >= 80, "only {} cases found", cases.len());
     let tall = cases.iter().filter(|case| case.height == TALL).count();
     assert!(tall >= 40, "only {tall} cases of the tall glass found");
+    let newer = cases.iter().filter(|case| case.edition == NEWER).count();
+    assert!(newer >= 40, "only {newer} cases of the newer edition found");
+    let timed = cases.iter().filter(|case| case.input.iter().any(|input| matches!(input, Input::Time(_)))).count();
+    assert!(timed >= 30, "only {timed} cases with time found");
     let mut wrong = 0;
     for case in &cases {
-        let listing = listing_of_stream(&font, case.height, &case.input);
+        let listing = case.listing(&font);
         if listing != case.expected {
             wrong += 1;
             println!("--- {}\nexpected:\n{}got:\n{}", case.name, case.expected, listing);

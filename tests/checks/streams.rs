@@ -2,9 +2,10 @@
 
 use reference::builtin::built_in_font;
 use reference::coverage::Coverage;
-use reference::generator::{any_scene, fresh_scene, height_of, program_stream};
+use reference::edition::{NEWER, OLDER};
+use reference::generator::{any_scene, edition_of, fresh_scene, height_of, program_stream, small_stream};
 use reference::glass::{LOW, TALL};
-use reference::properties::{book_holds, check, cuts_agree, lists_hold, starving_agrees, SEEDS};
+use reference::properties::{book_holds, check, cuts_agree, lists_hold, split_times_agree, starving_agrees, SEEDS};
 use reference::shrink::shrink;
 
 #[test]
@@ -28,6 +29,23 @@ fn starving_changes_nothing() {
 }
 
 #[test]
+fn splitting_times_changes_nothing() {
+    check("split times", &built_in_font(), SEEDS, split_times_agree, &mut Coverage::default());
+}
+
+/// Each of the four has a quarter of the fresh starts and a quarter of the others.
+#[test]
+fn every_height_meets_every_edition() {
+    for odd in [0, 1] {
+        let seeds = || (0..SEEDS).filter(|seed| seed % 2 == odd);
+        for (height, edition) in [(LOW, OLDER), (LOW, NEWER), (TALL, OLDER), (TALL, NEWER)] {
+            let count = seeds().filter(|&seed| (height_of(seed), edition_of(seed)) == (height, edition)).count();
+            assert_eq!(count as u64, SEEDS / 8);
+        }
+    }
+}
+
+#[test]
 fn a_seed_always_gives_the_same_stream() {
     let font = built_in_font();
     for seed in 0..20 {
@@ -38,6 +56,7 @@ fn a_seed_always_gives_the_same_stream() {
     }
     assert_ne!(program_stream(&font, LOW, 1), program_stream(&font, LOW, 2));
     assert_ne!(program_stream(&font, LOW, 1), program_stream(&font, TALL, 1));
+    assert_ne!(small_stream(&font, LOW, OLDER, 1), small_stream(&font, LOW, NEWER, 1));
 }
 
 #[test]

@@ -19,8 +19,7 @@ impl Bar {
     }
 
     pub fn holds(&self, x: usize, y: usize) -> bool {
-        (self.x1 as usize..=self.x2 as usize).contains(&x)
-            && (self.y1 as usize..=self.y2 as usize).contains(&y)
+        (self.x1 as usize..=self.x2 as usize).contains(&x) && (self.y1 as usize..=self.y2 as usize).contains(&y)
     }
 
     /// Whether this dot is black when `value` is shown in full.

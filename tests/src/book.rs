@@ -1,13 +1,15 @@
-//! The book of the third demand, and what else must hold of every byte.
+//! The book of the third demand, and what else must hold of every input.
 
 use crate::book_colour::colour_holds;
+use crate::book_editions::editions_hold;
 use crate::book_missing::missing_holds;
+use crate::book_times::times_hold;
 use crate::files::Files;
 use crate::footprint::Footprint;
 use crate::glass::{Glass, WIDTH};
 use crate::machine::{BarEvent, Step, Subject};
 use crate::mutants::{is, Mutant as M};
-use crate::state::{Bar, State, Text};
+use crate::state::{Bar, State};
 
 /// One bar as the book knows it.
 #[derive(Clone, Copy, Debug)]
@@ -51,7 +53,7 @@ impl Entry {
     }
 }
 
-/// What was there before the byte.
+/// What was there before the input.
 #[derive(Clone)]
 struct Before {
     glass: Glass,
@@ -84,7 +86,7 @@ impl Book {
         self.bars.map(|entry| entry.is_some_and(|entry| entry.sure))
     }
 
-    /// The glass as of the last byte.
+    /// The glass as of the last input.
     pub fn glass(&self) -> &Glass {
         &self.before.glass
     }
@@ -93,14 +95,23 @@ impl Book {
         self.colour_byte
     }
 
-    /// The text settings as of the last byte.
-    pub fn text(&self) -> &Text {
-        &self.before.state.text
+    /// The state as of the last input.
+    pub fn state(&self) -> &State {
+        &self.before.state
     }
 
-    /// One byte was consumed; an error says what does not hold.
-    pub fn byte(&mut self, step: &Step, glass: &Glass, files: &Files, state: &State) -> Result<(), String> {
-        let refused = if is(M::RefusedCharacterTouches) && step.outcome == Err(29) { Footprint::Whole } else { Footprint::Nothing };
+    /// The store as of the last input.
+    pub fn store(&self) -> &[u8] {
+        &self.before.store
+    }
+
+    /// One byte was consumed, or time passed, which is nothing to the bars; an error says what does not hold.
+    pub fn input(&mut self, step: &Step, glass: &Glass, files: &Files, state: &State) -> Result<(), String> {
+        let refused = if is(M::RefusedCharacterTouches) && step.outcome == Err(29) {
+            Footprint::Whole
+        } else {
+            Footprint::Nothing
+        };
         let touched = step.outcome.clone().unwrap_or(refused);
         let changed = changed(&self.before.glass, glass);
         if !changed.is_empty() {
@@ -117,6 +128,8 @@ impl Book {
         let after = (glass, &files.raw[..], state);
         missing_holds(step, before, after, files)?;
         colour_holds(step, before, after)?;
+        times_hold(step, before, after)?;
+        editions_hold(step, before, after)?;
         self.enter(step, &touched, state.height as usize);
         if step.subject == Subject::Command(99) {
             self.colour_byte = step.arguments.first().copied();
@@ -128,7 +141,7 @@ impl Book {
             self.before.glass = glass.clone();
             self.before.state = state.clone();
         } else {
-            return Err("the state after the byte is not sound".into());
+            return Err("the state after the input is not sound".into());
         }
         if self.before.store != files.raw {
             if Files::read(&files.raw).as_ref() != Some(files) {
@@ -146,7 +159,7 @@ impl Book {
         }
         let mut expected = self.before.state.clone();
         expected.gathering = None;
-        if step.subject == Subject::UploadBroken {
+        if let Subject::UploadBroken | Subject::UploadDropped = step.subject {
             expected.upload = None;
         }
         expected.refusals = expected.refusals.wrapping_add(1);

@@ -20,7 +20,11 @@ pub fn missing_holds(step: &Step, before: Seen, after: Seen, files: &Files) -> R
         return Ok(());
     };
     let Some(font) = Measures::of_current(files, before.2) else {
-        return if matches!(step.outcome, Err(22 | 23)) { Ok(()) } else { Err(format!("{byte} without a font was taken")) };
+        return if matches!(step.outcome, Err(22 | 23)) {
+            Ok(())
+        } else {
+            Err(format!("{byte} without a font was taken"))
+        };
     };
     if !font.lacks(byte) || step.outcome == Err(29) && !IGNORED.contains(&byte) {
         return Ok(());

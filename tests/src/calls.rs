@@ -1,37 +1,43 @@
-//! Lists of calls over a stream: pieces of any size, any reply room, refused calls between.
+//! Lists of calls over a stream: pieces of any size and times, any reply room, refused calls between.
 
 use crate::board::Board;
 use crate::book::Book;
 use crate::calls_refused::refused_calls;
 use crate::coverage::Coverage;
-use crate::feed::Fed;
+use crate::feed::{Fed, Watch};
 use crate::generator::Scene;
+use crate::input::{leading_bytes, Input};
 use crate::prng::Prng;
 use std::collections::VecDeque;
 
 /// Runs the stream as a list of calls; the end must be that of one straight call.
-pub fn run_list(scene: &Scene, stream: &[u8], coverage: &mut Coverage) -> Result<(), String> {
+pub fn run_list(scene: &Scene, stream: &[Input], coverage: &mut Coverage) -> Result<(), String> {
     let mut rng = Prng::new(scene.seed ^ 0x77);
     let mut straight = scene.begin.clone();
-    let all = straight.feed(stream, 2 * stream.len());
+    let all = straight.run(stream);
     let mut board = scene.begin.clone();
     let mut book = Book::open(&board.glass, &board.store, &board.state);
     let mut replies = Vec::new();
     let mut waiting: VecDeque<u8> = VecDeque::new();
     let mut left = stream;
-    while !left.is_empty() {
-        match rng.below(10) {
-            0..=5 => {
+    while let Some(&next) = left.first() {
+        match (rng.below(10), next) {
+            (0..=5, Input::Byte(_)) => {
                 let size = rng.pick(&[0, 1, 1, 2, 3, 7, 20, 100, 400]);
-                let piece = &left[..size.min(left.len())];
-                let room = if rng.percent(50) { 2 * piece.len() + 2 } else { rng.below(6) };
-                let fed = watched(&mut board, piece, room, &mut book, coverage)?;
+                let bytes = leading_bytes(&left[..size.min(left.len())]);
+                let room = if rng.percent(50) { 2 * bytes.len() + 2 } else { rng.below(6) };
+                let fed = watched(&mut board, &bytes, room, &mut book, coverage)?;
                 replies.extend(fed.replies);
                 left = &left[fed.consumed..];
             }
-            6 => arrivals(&mut board, &mut rng, &mut waiting, coverage)?,
-            7 => takes(&mut board, &mut rng, &mut waiting, coverage)?,
-            _ => refused_calls(&board, left, &mut rng, coverage)?,
+            (0..=5, Input::Time(milliseconds)) => {
+                let fed = waited(&mut board, milliseconds, rng.below(5), &mut book, coverage)?;
+                replies.extend(fed.replies);
+                left = &left[(fed.answer == 0) as usize..];
+            }
+            (6, _) => arrivals(&mut board, &mut rng, &mut waiting, coverage)?,
+            (7, _) => takes(&mut board, &mut rng, &mut waiting, coverage)?,
+            _ => refused_calls(&board, &leading_bytes(left), &mut rng, coverage)?,
         }
     }
     if (&board.glass, &board.store, &board.state) != (&straight.glass, &straight.store, &straight.state) {
@@ -43,19 +49,58 @@ pub fn run_list(scene: &Scene, stream: &[u8], coverage: &mut Coverage) -> Result
     Ok(())
 }
 
-/// One feed with the book at its side; its answer must fit its counts.
-pub fn watched(board: &mut Board, piece: &[u8], room: usize, book: &mut Book, coverage: &mut Coverage) -> Result<Fed, String> {
+/// Makes a call with the book at its side, which sees every step.
+pub fn beside_the_book(
+    book: &mut Book,
+    coverage: &mut Coverage,
+    call: impl FnOnce(&mut Watch) -> Fed,
+) -> Result<Fed, String> {
     let mut result = Ok(());
-    let fed = board.feed_watched(piece, room, &mut |step, glass, files, state| {
+    let fed = call(&mut |step, glass, files, state| {
         coverage.step(step, files, state);
         coverage.colour(step, book.glass(), glass, state.height, book.colour_byte());
-        let (text, sure) = (book.text().clone(), book.sure());
+        coverage.edition(step, (book.store(), book.state()), files);
+        let (text, sure) = (book.state().text.clone(), book.sure());
         if result.is_ok() {
-            result = book.byte(step, glass, files, state);
+            result = book.input(step, glass, files, state);
         }
         coverage.missing_letter(step, files, state, (&text, sure), book.sure());
     });
-    result?;
+    result.map(|()| fed)
+}
+
+/// One time call; 5 without two free reply bytes, and then nothing has changed.
+fn waited(
+    board: &mut Board,
+    milliseconds: u32,
+    room: usize,
+    book: &mut Book,
+    coverage: &mut Coverage,
+) -> Result<Fed, String> {
+    let before = board.clone();
+    let fed = beside_the_book(book, coverage, |watch| board.time_watched(milliseconds, room, watch))?;
+    coverage.answer("time", fed.answer);
+    coverage.time_call(&before.state, milliseconds, fed.answer);
+    let dropped = before.state.upload.is_some() && board.state.upload.is_none();
+    let replies: &[u8] = if dropped { &[254, 212] } else { &[] };
+    if fed.answer != if room < 2 { 5 } else { 0 } || fed.replies != replies {
+        return Err(format!("time with {room} reply bytes free answers {} and {:?}", fed.answer, fed.replies));
+    }
+    if fed.answer == 5 && *board != before {
+        return Err("a time call without room changed something".into());
+    }
+    Ok(fed)
+}
+
+/// One feed; its answer must fit its counts.
+fn watched(
+    board: &mut Board,
+    piece: &[u8],
+    room: usize,
+    book: &mut Book,
+    coverage: &mut Coverage,
+) -> Result<Fed, String> {
+    let fed = beside_the_book(book, coverage, |watch| board.feed_watched(piece, room, watch))?;
     coverage.answer("feed", fed.answer);
     let free = room - fed.replies.len();
     let fits = match fed.answer {
@@ -69,7 +114,12 @@ pub fn watched(board: &mut Board, piece: &[u8], room: usize, book: &mut Book, co
     Ok(fed)
 }
 
-fn arrivals(board: &mut Board, rng: &mut Prng, waiting: &mut VecDeque<u8>, coverage: &mut Coverage) -> Result<(), String> {
+fn arrivals(
+    board: &mut Board,
+    rng: &mut Prng,
+    waiting: &mut VecDeque<u8>,
+    coverage: &mut Coverage,
+) -> Result<(), String> {
     for _ in 0..rng.pick(&[1, 5, 40, 90]) {
         let byte = rng.byte();
         let before = board.clone();

@@ -1,13 +1,16 @@
 //! Calls on copies with bad memory, one to three things wrong at once: the first answer in order, and nothing changed.
 
 use crate::board::Board;
-use crate::checks_start::UNKNOWN;
+use crate::checks_start::{UNKNOWN, UNKNOWN_EDITIONS};
 use crate::coverage::Coverage;
-use crate::feed::{feed, start};
+use crate::edition::{EDITIONS, OLDER};
+use crate::feed::{feed, time, Fed};
+use crate::files::Files;
 use crate::glass::{glass_bytes, Glass, HEIGHTS, LOW, TALL};
 use crate::prng::Prng;
 use crate::queue::{arrive, take};
-use crate::state::{Kind, Lent, State, Upload};
+use crate::start::{start, Choice};
+use crate::state::{Lent, Sort, State, Upload};
 
 #[derive(Clone, Copy, Debug, PartialEq, Eq)]
 pub enum Fault {
@@ -20,15 +23,19 @@ pub enum Fault {
     Unsound,
     Thresholds,
     Meaningless,
+    Edition,
+    Waited,
     Directory,
     Upload,
+    UploadNumber,
 }
 
 use Fault as F;
 
-const FAULTS: [Fault; 11] = [
+#[rustfmt::skip]
+const FAULTS: [Fault; 14] = [
     F::Length, F::QueueLength, F::Height, F::Glass, F::OtherGlass, F::Store, F::Unsound, F::Thresholds, F::Meaningless,
-    F::Directory, F::Upload,
+    F::Edition, F::Waited, F::Directory, F::Upload, F::UploadNumber,
 ];
 
 /// What is wrong, and the memory that it is wrong with.
@@ -45,6 +52,7 @@ pub fn refused_calls(board: &Board, piece: &[u8], rng: &mut Prng, coverage: &mut
     let bad = Bad::new(board, &mut rng);
     bad.count(coverage);
     bad.feed(piece, coverage)?;
+    bad.time(&mut rng, coverage)?;
     bad.queue_calls(coverage)?;
     bad.start(&mut rng, coverage)
 }
@@ -92,14 +100,32 @@ impl Bad {
             F::Store => bad.store.resize(rng.pick(&[0, 100, 1023, 32769, 40000]), 0),
             F::Unsound => bad.state.text.x = 496,
             F::Thresholds => (bad.state.full, bad.state.empty) = (rng.pick(&[40, 80, 255]), rng.pick(&[40, 80])),
-            F::Directory => bad.store[rng.pick(&[252, 255])] = 7,
+            F::Edition => bad.state.edition = rng.pick(&[0, 3, 4, 128, 255]),
+            F::Waited => self.upload().waited = rng.pick(&[2100, 2101, 65535]),
+            F::Directory => {
+                // the last byte, or one where the next record would begin
+                let end = Files::read(&bad.store).expect("a good directory").record_bytes();
+                bad.store[rng.pick(&[end, 255])] = 7;
+            }
             F::Upload => {
-                (bad.state.gathering, bad.state.inline) = (None, None);
                 let number = rng.pick(&[1, 20]);
                 let size = if number == 1 { 5 } else { 40000 };
-                bad.state.upload = Some(Upload { kind: Kind::Font, number, size, stored: 2, echoed: None });
+                *self.upload() =
+                    Upload { stored: 2, waited: self.upload().waited, ..Upload::new(Sort::Font, number, size) };
+            }
+            F::UploadNumber => {
+                let number = rng.pick(&[1024, 1025, 65535]);
+                let older = self.board.state.edition == OLDER;
+                self.upload().number = if older && rng.percent(50) { rng.pick(&[256, 257, 1023]) } else { number };
             }
         }
+    }
+
+    /// The upload under way, one that is just beginning if there was none.
+    fn upload(&mut self) -> &mut Upload {
+        let state = &mut self.board.state;
+        (state.gathering, state.inline) = (None, None);
+        state.upload.get_or_insert(Upload::new(Sort::Bitmap, 20, 9))
     }
 
     fn any(&self, faults: &[Fault]) -> bool {
@@ -113,40 +139,59 @@ impl Bad {
         }
     }
 
-    /// 0 where only the queue record is bad, which is not lent.
-    fn feed_answer(&self) -> u8 {
+    /// Of a piece and of a time call; 0 where only the queue record is bad, which is not lent.
+    fn panel_answer(&self) -> u8 {
         if self.any(&[F::Length, F::Height]) {
             3
         } else if self.any(&[F::Glass, F::OtherGlass]) {
             1
         } else if self.any(&[F::Store]) {
             2
-        } else if self.any(&[F::Unsound, F::Thresholds, F::Meaningless]) {
+        } else if self.any(&[F::Unsound, F::Thresholds, F::Meaningless, F::Edition, F::Waited]) {
             3
-        } else if self.any(&[F::Directory, F::Upload]) {
+        } else if self.any(&[F::Directory, F::Upload, F::UploadNumber]) {
             4
         } else {
             0
         }
     }
 
+    fn lend<'a>(&self, state: &'a mut State) -> Lent<'a> {
+        if self.any(&[F::Length]) {
+            Lent::WrongLength
+        } else if self.any(&[F::Meaningless]) {
+            Lent::Meaningless { height: state.height }
+        } else {
+            Lent::State(state)
+        }
+    }
+
     fn feed(&self, piece: &[u8], coverage: &mut Coverage) -> Result<(), String> {
-        let expected = self.feed_answer();
+        self.panel_call("feed", coverage, |b, lent| feed(&b.font, &mut b.glass, &mut b.store, lent, piece, 100))
+    }
+
+    /// Any time with any room: what is wrong with the memory comes before 5.
+    fn time(&self, rng: &mut Prng, coverage: &mut Coverage) -> Result<(), String> {
+        let (milliseconds, room) = (rng.pick(&[0, 1, 2099, 2100, u32::MAX]), rng.below(4));
+        self.panel_call("time", coverage, |b, lent| time(&b.font, &b.glass, &b.store, lent, milliseconds, room))
+    }
+
+    fn panel_call(
+        &self,
+        name: &str,
+        coverage: &mut Coverage,
+        call: impl Fn(&mut Board, Lent) -> Fed,
+    ) -> Result<(), String> {
+        let expected = self.panel_answer();
         if expected == 0 {
             return Ok(());
         }
-        let mut after = self.board.clone();
-        let state = if self.any(&[F::Length]) {
-            Lent::WrongLength
-        } else if self.any(&[F::Meaningless]) {
-            Lent::Meaningless { height: after.state.height }
-        } else {
-            Lent::State(&mut after.state)
-        };
-        let fed = feed(&after.font, &mut after.glass, &mut after.store, state, piece, 100);
-        coverage.answer("feed", fed.answer);
-        if (fed.answer, fed.consumed) != (expected, 0) || after != self.board {
-            return Err(format!("feeding with {:?} answers {}", self.faults, fed.answer));
+        let (mut after, mut state) = (self.board.clone(), self.board.state.clone());
+        let fed = call(&mut after, self.lend(&mut state));
+        after.state = state;
+        coverage.answer(name, fed.answer);
+        if fed != (Fed { answer: expected, consumed: 0, replies: Vec::new() }) || after != self.board {
+            return Err(format!("{name} with {:?} answers {}", self.faults, fed.answer));
         }
         Ok(())
     }
@@ -155,14 +200,18 @@ impl Bad {
         let state = (!self.any(&[F::Length, F::Meaningless])).then_some(&self.board.state);
         let mut queue = self.board.queue.clone();
         let kept = !self.any(&[F::QueueLength]);
-        let refused = !kept || self.any(&[F::Length, F::Height, F::Unsound, F::Thresholds, F::Meaningless]);
+        let of_the_record = [F::Length, F::Height, F::Unsound, F::Thresholds, F::Meaningless, F::Edition, F::Waited];
+        let refused = !kept || self.any(&of_the_record);
         let arrived = arrive(state, kept.then_some(&mut queue), 1);
         coverage.answer("arrive", arrived.answer);
         let between = queue.clone();
         let taken = take(state, kept.then_some(&mut queue));
         coverage.answer("take", taken.answer);
         if (arrived.answer == 3) != refused || (taken.answer == 3) != refused {
-            return Err(format!("arriving and taking with {:?} answer {} {}", self.faults, arrived.answer, taken.answer));
+            return Err(format!(
+                "arriving and taking with {:?} answer {} {}",
+                self.faults, arrived.answer, taken.answer
+            ));
         }
         if refused && (between != self.board.queue || queue != self.board.queue) {
             return Err("a refused arrival or take changed the queue".into());
@@ -170,16 +219,20 @@ impl Bad {
         Ok(())
     }
 
-    /// Start minds the height it is given, lengths, and the directory only.
+    /// Start minds the height and the edition it is given, lengths, and the directory only.
     fn start(&self, rng: &mut Prng, coverage: &mut Coverage) -> Result<(), String> {
         let height = if rng.percent(60) { rng.pick(&HEIGHTS) as u32 } else { rng.pick(&UNKNOWN) };
+        let edition = if rng.percent(70) { rng.pick(&EDITIONS) as u32 } else { rng.pick(&UNKNOWN_EDITIONS) };
         let known = HEIGHTS.into_iter().find(|&known| known as u32 == height);
+        let known_edition = EDITIONS.into_iter().find(|&known| known as u32 == edition);
         let expected = if known.is_none() || self.any(&[F::Length, F::QueueLength]) {
             3
         } else if self.glass != known {
             1
         } else if self.any(&[F::Store]) {
             2
+        } else if known_edition.is_none() {
+            3
         } else if self.any(&[F::Directory]) {
             4
         } else {
@@ -188,15 +241,18 @@ impl Bad {
         let mut after = self.board.clone();
         let (state_kept, queue_kept) = (!self.any(&[F::Length]), !self.any(&[F::QueueLength]));
         let (state, queue) = (state_kept.then_some(&mut after.state), queue_kept.then_some(&mut after.queue));
-        let answer = start(height, &mut after.glass, &after.store, state, queue);
+        let answer = start(Choice { height, edition }, &mut after.glass, &after.store, state, queue);
         coverage.answer("start", answer);
         coverage.note(start_name(height, answer));
-        let as_it_should = match known.filter(|_| answer == 0) {
-            Some(height) => after.state == State::at_start(height) && after.glass == Glass::white(height),
+        coverage.note(start_edition_name(edition, answer));
+        let as_it_should = match known.zip(known_edition).filter(|_| answer == 0) {
+            Some((height, edition)) => {
+                after.state == State::at_start(height, edition) && after.glass == Glass::white(height)
+            }
             None => after == self.board,
         };
         if answer != expected || !as_it_should {
-            return Err(format!("starting with {height} and {:?} answers {answer}", self.faults));
+            return Err(format!("starting with {height}, {edition} and {:?} answers {answer}", self.faults));
         }
         Ok(())
     }
@@ -214,7 +270,11 @@ fn start_name(height: u32, answer: u8) -> String {
     format!("start with height {height} answers {answer}")
 }
 
-/// Every fault, every two of them together, and every height given to start.
+fn start_edition_name(edition: u32, answer: u8) -> String {
+    format!("start with edition {edition} answers {answer}")
+}
+
+/// Every fault, every two of them together, and every height and edition given to start.
 pub fn wanted() -> Vec<String> {
     let mut wanted = Vec::new();
     for (k, &one) in FAULTS.iter().enumerate() {
@@ -223,8 +283,12 @@ pub fn wanted() -> Vec<String> {
         wanted.extend(others.map(|&other| pair_name(one, other)));
     }
     wanted.extend(UNKNOWN.map(|height| start_name(height, 3)));
-    for height in HEIGHTS {
-        wanted.extend([0, 1, 2, 3, 4].map(|answer| start_name(height as u32, answer)));
+    wanted.extend(
+        [1, 2, 3].into_iter().flat_map(|answer| UNKNOWN_EDITIONS.map(|edition| start_edition_name(edition, answer))),
+    );
+    for answer in 0..=4 {
+        wanted.extend(HEIGHTS.map(|height| start_name(height as u32, answer)));
+        wanted.extend(EDITIONS.map(|edition| start_edition_name(edition as u32, answer)));
     }
     wanted
 }

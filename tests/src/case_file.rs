@@ -1,17 +1,27 @@
 //! The named cases: bytes in, listing out, in a text a person can read.
 //!
-//! `#` at the start of a line is a comment. Before `in:` may stand `height 128`,
-//! for the tall glass; without it the glass is the low one. After `in:` a line
-//! holds decimal bytes, or begins with one of
+//! `#` at the start of a line is a comment. Before `in:` may stand
+//!   height 128            for the tall glass; without it the glass is the low one
+//!   edition 2             for the newer upload; without it the edition is the older one
+//!   directory bytes       the store's first bytes, which are 0 without it; several such lines follow on
+//!   files bytes           the first bytes of its file area, likewise
+//! After `in:` a line holds decimal bytes, with `t2100` where that many milliseconds
+//! pass between them, or begins with one of
 //!   text "..."            the characters between the quotes
 //!   repeat N: items       the items N times over
-//!   upload font N: bytes  command 36 (or 94 for `bitmap`) with the bytes, each confirmed
+//!   upload font N: bytes  command 36 (or 94 for `bitmap`) with the bytes, each confirmed,
+//!                         number and size as wide as the edition has them
 //! and may hold `{N x items}`, N times the items, or `{N from F: items}`, where
 //! `#` stands for F, F+1 and so on. After `out:` follows the exact listing, in
 //! which `{N x "text"}` is N times the text, and `A to B: runs` is the same line
 //! for each row from A to B.
 
+use crate::board::Board;
+use crate::directory::DIRECTORY;
+use crate::edition::{number_sent, size_sent, NEWER, OLDER};
 use crate::glass::{LOW, TALL};
+use crate::input::{of_bytes, only_bytes, Input};
+use crate::listing::{listing, PROGRAM_STORE};
 use std::fs;
 use std::path::{Path, PathBuf};
 
@@ -19,8 +29,29 @@ use std::path::{Path, PathBuf};
 pub struct Case {
     pub name: String,
     pub height: u8,
-    pub input: Vec<u8>,
+    pub edition: u8,
+    pub store: Vec<u8>,
+    pub input: Vec<Input>,
     pub expected: String,
+}
+
+impl Case {
+    /// The board that the input is for.
+    pub fn begin(&self, font: &[u8]) -> Board {
+        Board::fresh(font, self.height, self.edition, self.store.clone())
+    }
+
+    pub fn listing(&self, font: &[u8]) -> String {
+        let mut board = self.begin(font);
+        let replies = board.run(&self.input).replies;
+        listing(&board.glass, board.state.refusals, board.state.last_refusal, &replies)
+    }
+
+    /// The bytes of a case that the program can be given: of the older edition, on an empty store, without times.
+    pub fn for_the_program(&self) -> Option<Vec<u8>> {
+        let plain = self.edition == OLDER && self.store.iter().all(|&byte| byte == 0);
+        only_bytes(&self.input).filter(|_| plain)
+    }
 }
 
 /// Every case under the folder, in order of name.
@@ -50,58 +81,74 @@ fn collect(folder: &Path, into: &mut Vec<PathBuf>) {
 fn read(folder: &Path, path: &Path) -> Case {
     let name = path.strip_prefix(folder).unwrap().with_extension("").to_string_lossy().to_string();
     let text = fs::read_to_string(path).expect("a case");
-    let mut input = Vec::new();
-    let mut expected = String::new();
-    let mut height = LOW;
+    let (mut height, mut edition) = (LOW, OLDER);
+    let (mut directory, mut files) = (Vec::new(), Vec::new());
+    let (mut input, mut expected) = (Vec::new(), String::new());
     let mut part = "";
     for line in text.lines() {
+        let unreadable = || -> ! { panic!("{name}: cannot read {line:?}") };
         match (part, line) {
             (_, "in:") => part = "in",
             ("", "height 128") => height = TALL,
+            ("", "edition 2") => edition = NEWER,
             ("in", "out:") => part = "out",
             ("out", _) => expected += &spread_rows(&spread_text(line)),
             (_, _) if line.starts_with('#') || line.trim().is_empty() => {}
-            ("in", _) => input.extend(line_bytes(line).unwrap_or_else(|| panic!("{name}: cannot read {line:?}"))),
-            _ => panic!("{name}: {line:?} before in:"),
+            ("in", _) => input.extend(line_inputs(line, edition).unwrap_or_else(|| unreadable())),
+            _ => match line.split_once(' ').and_then(|(word, rest)| Some((word, only_bytes(&numbers(rest)?)?))) {
+                Some(("directory", bytes)) => directory.extend(bytes),
+                Some(("files", bytes)) => files.extend(bytes),
+                _ => unreadable(),
+            },
         }
     }
     assert!(part == "out", "{name} has no out:");
-    Case { name, height, input, expected }
+    let mut store = vec![0; PROGRAM_STORE];
+    assert!(directory.len() <= DIRECTORY, "{name}: a directory of {} bytes", directory.len());
+    store[..directory.len()].copy_from_slice(&directory);
+    store[DIRECTORY..DIRECTORY + files.len()].copy_from_slice(&files);
+    Case { name, height, edition, store, input, expected }
 }
 
-fn line_bytes(line: &str) -> Option<Vec<u8>> {
+fn line_inputs(line: &str, edition: u8) -> Option<Vec<Input>> {
     let line = line.trim();
     if let Some(rest) = line.strip_prefix("repeat ") {
         let (count, items) = rest.split_once(':')?;
-        return Some(line_bytes(items)?.repeat(count.trim().parse().ok()?));
+        return Some(line_inputs(items, edition)?.repeat(count.trim().parse().ok()?));
     }
     if let Some(rest) = line.strip_prefix("text ") {
-        return Some(rest.trim().strip_prefix('"')?.strip_suffix('"')?.bytes().collect());
+        return Some(of_bytes(rest.trim().strip_prefix('"')?.strip_suffix('"')?.as_bytes()));
     }
     if let Some(rest) = line.strip_prefix("upload ") {
         let (head, items) = rest.split_once(':')?;
-        let (kind, number) = head.split_once(' ')?;
-        let code = match kind {
+        let (sort, number) = head.split_once(' ')?;
+        let code = match sort {
             "font" => 36,
             "bitmap" => 94,
             _ => return None,
         };
-        return Some(upload(code, number.trim().parse().ok()?, &numbers(items)?));
+        let file = only_bytes(&numbers(items)?)?;
+        return Some(of_bytes(&upload(edition, code, number.trim().parse().ok()?, &file)));
     }
     numbers(line)
 }
 
+/// The bytes a host sends to begin an upload.
+pub fn upload_begun(edition: u8, code: u8, number: u16, size: usize) -> Vec<u8> {
+    [vec![254, code], number_sent(edition, number), size_sent(edition, size as u32)].concat()
+}
+
 /// The bytes a host sends for a whole upload.
-pub fn upload(code: u8, number: u8, file: &[u8]) -> Vec<u8> {
-    let mut bytes = vec![254, code, number, (file.len() % 256) as u8, (file.len() / 256) as u8];
+pub fn upload(edition: u8, code: u8, number: u16, file: &[u8]) -> Vec<u8> {
+    let mut bytes = upload_begun(edition, code, number, file.len());
     for &byte in file {
         bytes.extend([byte, 1]);
     }
     bytes
 }
 
-/// Decimal bytes with `{...}` groups among them.
-fn numbers(text: &str) -> Option<Vec<u8>> {
+/// Decimal bytes and times with `{...}` groups among them.
+fn numbers(text: &str) -> Option<Vec<Input>> {
     let mut bytes = Vec::new();
     let mut rest = text;
     while let Some((before, after)) = rest.split_once('{') {
@@ -123,7 +170,7 @@ fn numbers(text: &str) -> Option<Vec<u8>> {
     Some(bytes)
 }
 
-fn plain(text: &str) -> Option<Vec<u8>> {
+fn plain(text: &str) -> Option<Vec<Input>> {
     text.split_whitespace().map(|word| word.parse().ok()).collect()
 }
 

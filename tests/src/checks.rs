@@ -2,6 +2,7 @@
 
 use crate::board::Board;
 use crate::builtin::built_in_font;
+use crate::edition::OLDER;
 
 /// Each check becomes a public function, a test, and an entry of `ALL`.
 #[macro_export]
@@ -18,12 +19,17 @@ macro_rules! checks {
     };
 }
 
-/// Just started, with the smallest store.
+/// Just started in the older edition, with the smallest store.
 pub fn board(height: u8) -> Board {
-    Board::fresh(&built_in_font(), height, vec![0; 1024])
+    board_of(height, OLDER)
 }
 
-/// The same after a stream.
+/// The same in either edition.
+pub fn board_of(height: u8, edition: u8) -> Board {
+    Board::fresh(&built_in_font(), height, edition, vec![0; 1024])
+}
+
+/// In the older edition after a stream.
 pub fn after(height: u8, stream: &[u8]) -> Board {
     let mut board = board(height);
     assert_eq!(board.feed(stream, 2 * stream.len()).answer, 0);
@@ -32,7 +38,7 @@ pub fn after(height: u8, stream: &[u8]) -> Board {
 
 /// The checks of all subjects, by subject and name.
 pub fn all() -> Vec<(String, fn())> {
-    let groups: [(&str, &[(&str, fn())]); 10] = [
+    let groups: [(&str, &[(&str, fn())]); 14] = [
         ("start", crate::checks_start::ALL),
         ("answers", crate::checks_answers::ALL),
         ("heights", crate::checks_heights::ALL),
@@ -43,6 +49,10 @@ pub fn all() -> Vec<(String, fn())> {
         ("flow", crate::checks_flow::ALL),
         ("store", crate::checks_store::ALL),
         ("examples", crate::checks_examples::ALL),
+        ("editions", crate::checks_editions::ALL),
+        ("numbers", crate::checks_numbers::ALL),
+        ("directory", crate::checks_directory::ALL),
+        ("time", crate::checks_time::ALL),
     ];
     let mut all = Vec::new();
     for (group, checks) in groups {

@@ -2,12 +2,13 @@
 
 use crate::board::Board;
 use crate::builtin::built_in_font;
+use crate::edition::OLDER;
 use crate::feed::feed;
 use crate::glass::{Glass, LOW};
-use crate::state::{Gathering, Kind, Lent, Upload};
+use crate::state::{Gathering, Lent, Sort, Upload};
 
 fn board(size: usize) -> Board {
-    Board::fresh(&built_in_font(), LOW, vec![0; size])
+    Board::fresh(&built_in_font(), LOW, OLDER, vec![0; size])
 }
 
 /// Feeds and wants a refusal that changes nothing.
@@ -62,9 +63,9 @@ checks! {
 
     fn record_comes_before_directory_of_running_upload() {
         let mut bad = board(1024);
-        bad.state.upload = Some(Upload { kind: Kind::Font, number: 1, size: 5, stored: 5, echoed: None });
+        bad.state.upload = Some(Upload { sort: Sort::Font, number: 1, size: 5, stored: 5, echoed: None, waited: 0 });
         refused(&bad, &[45], 3);
-        bad.state.upload = Some(Upload { kind: Kind::Font, number: 1, size: 5, stored: 4, echoed: None });
+        bad.state.upload = Some(Upload { sort: Sort::Font, number: 1, size: 5, stored: 4, echoed: None, waited: 0 });
         refused(&bad, &[45], 4);
     }
 
@@ -81,7 +82,7 @@ checks! {
     }
 
     fn running_upload_that_would_now_be_refused() {
-        let upload = Upload { kind: Kind::Bitmap, number: 7, size: 700, stored: 3, echoed: None };
+        let upload = Upload { sort: Sort::Bitmap, number: 7, size: 700, stored: 3, echoed: None, waited: 0 };
         let mut good = board(1024);
         good.state.upload = Some(upload);
         assert_eq!(good.clone().feed(&[9], 2).replies, [9]);
@@ -105,7 +106,7 @@ checks! {
         }
         refused(&full, &[9], 4);
         let mut font_one = good.clone();
-        font_one.state.upload = Some(Upload { kind: Kind::Font, number: 1, ..upload });
+        font_one.state.upload = Some(Upload { sort: Sort::Font, number: 1, ..upload });
         refused(&font_one, &[9], 4);
     }
 

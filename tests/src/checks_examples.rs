@@ -3,10 +3,11 @@
 use crate::board::Board;
 use crate::builtin::built_in_font;
 use crate::case_file::upload;
+use crate::edition::OLDER;
 use crate::glass::{LOW, WIDTH};
 
 fn after(stream: &[u8]) -> Board {
-    let mut board = Board::fresh(&built_in_font(), LOW, vec![0; 1024]);
+    let mut board = Board::fresh(&built_in_font(), LOW, OLDER, vec![0; 1024]);
     assert_eq!(board.feed(stream, 2 * stream.len()).answer, 0);
     board
 }
@@ -54,7 +55,7 @@ checks! {
     }
 
     fn letter_t() {
-        let mut stream = upload(36, 2, &[3, 5, 84, 84, 0, 7, 3, 0xE9, 0x24]);
+        let mut stream = upload(OLDER, 36, 2, &[3, 5, 84, 84, 0, 7, 3, 0xE9, 0x24]);
         stream.extend([254, 49, 2, 84]);
         let mut t = rectangle(0, 0, 2, 0);
         t.extend(rectangle(1, 1, 1, 4));
@@ -62,7 +63,7 @@ checks! {
     }
 
     fn five_by_four() {
-        let mut saved = upload(94, 2, &[5, 4, 255, 255, 240]);
+        let mut saved = upload(OLDER, 94, 2, &[5, 4, 255, 255, 240]);
         saved.extend([254, 98, 2, 0, 0]);
         let in_line = [254, 100, 0, 0, 4, 3, 248, 248, 248, 248];
         assert_eq!(dots(&after(&saved)), rectangle(0, 0, 4, 3));
@@ -79,7 +80,7 @@ checks! {
     }
 
     fn room_of_the_least_store() {
-        let mut board = Board::fresh(&built_in_font(), LOW, vec![0; 1024]);
+        let mut board = Board::fresh(&built_in_font(), LOW, OLDER, vec![0; 1024]);
         assert_eq!(board.feed(&[254, 94, 1, 1, 3], 9).replies, [8]);
         assert_eq!(board.state.last_refusal, 24);
         assert_eq!(board.feed(&[254, 94, 1, 0, 3], 9).replies, [1]);

@@ -2,11 +2,12 @@
 
 use crate::board::Board;
 use crate::builtin::built_in_font;
+use crate::edition::OLDER;
 use crate::glass::LOW;
 use crate::queue::{arrive, take, Arrived, Queue, Taken};
 
 fn board(flow: bool, full: u8, empty: u8) -> Board {
-    let mut board = Board::fresh(&built_in_font(), LOW, vec![0; 1024]);
+    let mut board = Board::fresh(&built_in_font(), LOW, OLDER, vec![0; 1024]);
     (board.state.flow, board.state.full, board.state.empty) = (flow, full, empty);
     board
 }

@@ -4,6 +4,7 @@ use crate::board::Board;
 use crate::book::Book;
 use crate::case_file::upload;
 use crate::checks::{after, board};
+use crate::edition::OLDER;
 use crate::glass::{HEIGHTS, LOW, TALL};
 use crate::missing::IGNORED;
 
@@ -65,7 +66,7 @@ fn sure_after(height: u8, bytes: &[u8]) -> bool {
     let mut result = Ok(());
     board.feed_watched(bytes, 2 * bytes.len(), &mut |step, glass, files, state| {
         if result.is_ok() {
-            result = book.byte(step, glass, files, state);
+            result = book.input(step, glass, files, state);
         }
     });
     result.expect("the book holds");
@@ -234,7 +235,7 @@ checks! {
     /// By the nominal width, be it less or more than that of the glyphs.
     fn footprint_by_the_nominal_width() {
         for (nominal, beside) in [(2, 8), (5, 5), (9, 1)] {
-            let choose = [&upload(36, 6, &font(nominal, 4))[..], &[254, 49, 6]].concat();
+            let choose = [&upload(OLDER, 36, 6, &font(nominal, 4))[..], &[254, 49, 6]].concat();
             for (x, sure) in [(beside, true), (beside + 1, false), (14, false), (15, true)] {
                 let bytes = [&choose[..], &[254, 121, x, 20, 66]].concat();
                 assert_eq!(with_bar(LOW, 20, &bytes), sure, "nominal {nominal} at {x}");

@@ -2,17 +2,18 @@
 
 use crate::board::Board;
 use crate::builtin::built_in_font;
+use crate::edition::OLDER;
 use crate::files::Files;
 use crate::glass::{LOW, TALL};
 use crate::queue::Queue;
-use crate::state::{Bar, Gathering, Inline, Kind, State, Strip, Upload};
+use crate::state::{Bar, Gathering, Inline, Sort, State, Strip, Upload};
 
 fn with(change: impl FnOnce(&mut State)) -> bool {
     with_height(LOW, change)
 }
 
 fn with_height(height: u8, change: impl FnOnce(&mut State)) -> bool {
-    let mut state = State::at_start(height);
+    let mut state = State::at_start(height, OLDER);
     change(&mut state);
     state.sound()
 }
@@ -48,7 +49,7 @@ checks! {
 
     /// A value above the length is kept as the length, so the record stays sound.
     fn held_value_in_the_record() {
-        let mut board = Board::fresh(&built_in_font(), LOW, vec![0; 1024]);
+        let mut board = Board::fresh(&built_in_font(), LOW, OLDER, vec![0; 1024]);
         board.feed(&[254, 103, 0, 1, 0, 0, 9, 1, 254, 105, 0, 255], 99);
         assert_eq!(board.state.bars[0], Some(Bar { side: 1, x1: 0, y1: 0, x2: 9, y2: 1, value: 10 }));
         assert_eq!(board.feed(&[254, 105, 0, 10], 99).answer, 0);
@@ -110,7 +111,7 @@ checks! {
     }
 
     fn upload() {
-        let upload = Upload { kind: Kind::Font, number: 1, size: 3, stored: 2, echoed: None };
+        let upload = Upload { sort: Sort::Font, number: 1, size: 3, stored: 2, echoed: None, waited: 0 };
         assert!(with(|s| s.upload = Some(upload)));
         assert!(!with(|s| s.upload = Some(Upload { stored: 3, ..upload })));
         assert!(!with(|s| s.upload = Some(Upload { size: 0, stored: 0, ..upload })));
@@ -119,7 +120,7 @@ checks! {
     fn one_of_three_at_most() {
         let gathering = Gathering { bytes: vec![] };
         let inline = Inline { x1: 5, y1: 5, x2: 5, y2: 5, come: 0 };
-        let upload = Upload { kind: Kind::Font, number: 2, size: 3, stored: 2, echoed: Some(1) };
+        let upload = Upload { sort: Sort::Font, number: 2, size: 3, stored: 2, echoed: Some(1), waited: 0 };
         assert!(!with(|s| (s.gathering, s.inline) = (Some(gathering.clone()), Some(inline))));
         assert!(!with(|s| (s.gathering, s.upload) = (Some(gathering.clone()), Some(upload))));
         assert!(!with(|s| (s.inline, s.upload) = (Some(inline), Some(upload))));
@@ -136,7 +137,7 @@ checks! {
         let good = |records: &[[u8; 4]]| Files::read(&directory(records)).is_some();
         assert!(good(&[]));
         assert!(good(&[[1, 0, 1, 0], [2, 0, 1, 0], [2, 1, 1, 0]]));
-        assert!(!good(&[[3, 0, 1, 0]]), "kind");
+        assert!(!good(&[[5, 0, 1, 0]]), "kind");
         assert!(!good(&[[1, 0, 0, 0]]), "size 0");
         assert!(!good(&[[1, 1, 1, 0]]), "font 1");
         assert!(!good(&[[2, 7, 1, 0], [1, 7, 1, 0], [2, 7, 1, 0]]), "twice");

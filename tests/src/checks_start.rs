@@ -2,21 +2,30 @@
 
 use crate::board::Board;
 use crate::checks::board;
-use crate::feed::start;
+use crate::edition::OLDER;
 use crate::glass::{glass_bytes, Glass, HEIGHTS, LOW, TALL};
 use crate::queue::Queue;
-use crate::state::{Bar, Inline, Kind, State, Upload};
+use crate::start::{start, Choice};
+use crate::state::{Bar, Inline, Sort, State, Upload};
+
+/// Editions that there are not, some of them right in their low byte.
+pub const UNKNOWN_EDITIONS: [u32; 10] = [0, 3, 4, 64, 255, 256, 257, 258, 1 << 31, u32::MAX];
 
 /// Heights that no glass has, some of them right in their low byte.
+#[rustfmt::skip]
 pub const UNKNOWN: [u32; 22] = [
     0, 1, 32, 63, 65, 100, 127, 129, 192, 255, 256, 320, 384, 1920, 3840, 65536 + 64, 65536 + 128, 1 << 31, (1 << 24) + 64,
     u32::MAX - 127, u32::MAX - 63, u32::MAX,
 ];
 
+fn older(height: u32) -> Choice {
+    Choice { height, edition: OLDER as u32 }
+}
+
 /// Starts with both records and wants this refusal, with nothing changed.
 fn refused(board: &Board, height: u32, answer: u8) {
     let mut after = board.clone();
-    assert_eq!(after.start(height), answer, "height {height}");
+    assert_eq!(after.start(older(height)), answer, "height {height}");
     assert_eq!(&after, board, "a refused start changes nothing");
 }
 
@@ -24,9 +33,9 @@ fn refused(board: &Board, height: u32, answer: u8) {
 fn short_of_records(board: &Board, height: u32) -> [u8; 3] {
     let mut b = board.clone();
     let answers = [
-        start(height, &mut b.glass, &b.store, None, Some(&mut b.queue)),
-        start(height, &mut b.glass, &b.store, Some(&mut b.state), None),
-        start(height, &mut b.glass, &b.store, None, None),
+        start(older(height), &mut b.glass, &b.store, None, Some(&mut b.queue)),
+        start(older(height), &mut b.glass, &b.store, Some(&mut b.state), None),
+        start(older(height), &mut b.glass, &b.store, None, None),
     ];
     assert_eq!(&b, board, "a refused start changes nothing");
     answers
@@ -114,14 +123,14 @@ checks! {
             board.state.refusals = 5;
             board.state.bars[3] = Some(Bar { side: 9, x1: 9, y1: 9, x2: 1, y2: 1, value: 200 });
             board.state.inline = Some(Inline { x1: 9, y1: 9, x2: 1, y2: 1, come: 0 });
-            board.state.upload = Some(Upload { kind: Kind::Font, number: 1, size: 9999, stored: 9999, echoed: None });
+            board.state.upload = Some(Upload { sort: Sort::Font, number: 1, size: 9999, stored: 9999, echoed: None, waited: 0 });
             board.queue = Queue { place: 200, held: 99, lost: 7, mark: true, ..board.queue };
             board.store[..4].copy_from_slice(&[2, 1, 9, 0]);
             board.store[300] = 77;
             let store = board.store.clone();
-            assert_eq!(board.start(height as u32), 0);
+            assert_eq!(board.start(older(height as u32)), 0);
             assert_eq!(board.glass, Glass::white(height));
-            assert_eq!(board.state, State::at_start(height));
+            assert_eq!(board.state, State::at_start(height, OLDER));
             assert_eq!((board.queue.held, board.queue.place, board.queue.lost, board.queue.mark), (0, 0, 0, false));
             assert_eq!(board.store, store, "the store stays");
         }
@@ -132,7 +141,7 @@ checks! {
         for height in HEIGHTS {
             let mut board = board(height);
             board.glass = Glass::from_bytes(&vec![255; glass_bytes(height)]);
-            assert_eq!(board.start(height as u32), 0);
+            assert_eq!(board.start(older(height as u32)), 0);
             assert_eq!(board.glass.to_bytes(), vec![0; 30 * height as usize]);
         }
     }

@@ -3,6 +3,7 @@
 use crate::board::Board;
 use crate::builtin::built_in_font;
 use crate::case_file::upload;
+use crate::edition::OLDER;
 use crate::glass::LOW;
 
 /// 1,024 bytes whose file area holds 200, 201 and so on as leftovers.
@@ -11,7 +12,7 @@ fn board() -> Board {
     for (k, byte) in store[256..].iter_mut().enumerate() {
         *byte = 200u8.wrapping_add(k as u8);
     }
-    Board::fresh(&built_in_font(), LOW, store)
+    Board::fresh(&built_in_font(), LOW, OLDER, store)
 }
 
 fn sent(board: &mut Board, bytes: &[u8]) -> Vec<u8> {
@@ -37,22 +38,22 @@ checks! {
 
     fn broken_upload_leaves_its_bytes() {
         let mut board = board();
-        sent(&mut board, &upload(94, 3, &[1, 2]));
+        sent(&mut board, &upload(OLDER, 94, 3, &[1, 2]));
         sent(&mut board, &[254, 36, 9, 4, 0, 50, 1, 60, 1, 70, 0]);
         assert_eq!((board.state.refusals, board.state.last_refusal), (1, 26));
         assert_eq!(board.store[..5], [2, 3, 2, 0, 0]);
         assert_eq!(board.store[256..262], [1, 2, 50, 60, 204, 205]);
         // the next upload begins at the same free byte
-        sent(&mut board, &upload(36, 9, &[5]));
+        sent(&mut board, &upload(OLDER, 36, 9, &[5]));
         assert_eq!(board.store[..9], [2, 3, 2, 0, 1, 9, 1, 0, 0]);
         assert_eq!(board.store[256..262], [1, 2, 5, 60, 204, 205]);
     }
 
     fn delete_moves_down_and_leaves_the_tail() {
         let mut board = board();
-        sent(&mut board, &upload(94, 3, &[1, 2]));
-        sent(&mut board, &upload(36, 3, &[3, 4, 5]));
-        sent(&mut board, &upload(94, 4, &[6, 7]));
+        sent(&mut board, &upload(OLDER, 94, 3, &[1, 2]));
+        sent(&mut board, &upload(OLDER, 36, 3, &[3, 4, 5]));
+        sent(&mut board, &upload(OLDER, 94, 4, &[6, 7]));
         sent(&mut board, &[254, 173, 1, 3]);
         assert_eq!(board.store[..12], [1, 3, 3, 0, 2, 4, 2, 0, 0, 0, 0, 0]);
         assert_eq!(board.store[256..264], [3, 4, 5, 6, 7, 6, 7, 207]);
@@ -66,8 +67,8 @@ checks! {
 
     fn purge_clears_the_directory_only() {
         let mut board = board();
-        sent(&mut board, &upload(94, 3, &[1, 2]));
-        sent(&mut board, &upload(36, 3, &[3, 4, 5]));
+        sent(&mut board, &upload(OLDER, 94, 3, &[1, 2]));
+        sent(&mut board, &upload(OLDER, 36, 3, &[3, 4, 5]));
         sent(&mut board, &[254, 33, 89, 33]);
         assert_eq!(board.store[..256], [0; 256]);
         assert_eq!(board.store[256..263], [1, 2, 3, 4, 5, 205, 206]);
@@ -76,7 +77,7 @@ checks! {
 
     fn size_of_two_bytes() {
         let mut board = board();
-        sent(&mut board, &upload(94, 3, &[9; 258]));
+        sent(&mut board, &upload(OLDER, 94, 3, &[9; 258]));
         assert_eq!(board.store[..5], [2, 3, 2, 1, 0]);
         assert_eq!(board.store[256..514], [9; 258]);
         assert_eq!(board.store[514], 200u8.wrapping_add(2));
@@ -84,8 +85,8 @@ checks! {
 
     fn room_after_a_delete() {
         let mut board = board();
-        sent(&mut board, &upload(94, 3, &[9; 500]));
-        sent(&mut board, &upload(94, 4, &[8; 268]));
+        sent(&mut board, &upload(OLDER, 94, 3, &[9; 500]));
+        sent(&mut board, &upload(OLDER, 94, 4, &[8; 268]));
         assert_eq!(sent(&mut board, &[254, 94, 5, 1, 0]), [8]);
         sent(&mut board, &[254, 173, 1, 3]);
         assert_eq!(sent(&mut board, &[254, 94, 5, 245, 1]), [8], "501");
@@ -96,7 +97,7 @@ checks! {
 
     fn whole_area_in_one_file() {
         let mut board = board();
-        sent(&mut board, &upload(94, 3, &[9; 768]));
+        sent(&mut board, &upload(OLDER, 94, 3, &[9; 768]));
         assert_eq!(board.store[256..], [9; 768]);
         assert_eq!(board.store[..5], [2, 3, 0, 3, 0]);
         assert_eq!(sent(&mut board, &[254, 36, 3, 1, 0]), [8]);

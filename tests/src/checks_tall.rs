@@ -2,6 +2,7 @@
 
 use crate::case_file::upload;
 use crate::checks::{after, board};
+use crate::edition::OLDER;
 use crate::glass::{Glass, HEIGHTS, LOW, TALL};
 
 /// A font of one black column: character 65 only.
@@ -13,7 +14,7 @@ fn column(rows: u8) -> Vec<u8> {
 
 /// The last refusal after the font is chosen, 0 when it is taken.
 fn choosing(height: u8, rows: u8, before: &[u8]) -> u8 {
-    let stream = [before, &upload(36, 2, &column(rows)), &[254, 49, 2]].concat();
+    let stream = [before, &upload(OLDER, 36, 2, &column(rows)), &[254, 49, 2]].concat();
     after(height, &stream).state.last_refusal
 }
 
@@ -59,7 +60,7 @@ checks! {
 
     /// The store is the same: whether its font is malformed depends on the glass that it is lent with.
     fn same_store_on_both() {
-        let stored = after(TALL, &upload(36, 2, &column(65))).store;
+        let stored = after(TALL, &upload(OLDER, 36, 2, &column(65))).store;
         for (height, refusal) in [(LOW, 23), (TALL, 0)] {
             for piece in [&[254u8, 49, 2][..], &[65], &[254, 71, 1, 1]] {
                 let mut board = board(height);
@@ -73,7 +74,7 @@ checks! {
 
     fn character_as_high_as_the_glass() {
         for height in HEIGHTS {
-            let choose = [&upload(36, 2, &column(height))[..], &[254, 49, 2]].concat();
+            let choose = [&upload(OLDER, 36, 2, &column(height))[..], &[254, 49, 2]].concat();
             let mut board = after(height, &choose);
             board.feed(&[65, 254, 121, 5, 1, 65], 99);
             assert_eq!((board.state.refusals, board.state.last_refusal), (1, 29));

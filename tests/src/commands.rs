@@ -1,23 +1,38 @@
 //! Which commands there are, how many fixed arguments each needs, what each does.
 
 use crate::colour::is_black;
+use crate::edition::{number_bytes, size_bytes};
 use crate::footprint::Footprint;
 use crate::glass::on_glass;
 use crate::line;
 use crate::machine::Machine;
 use crate::mutants::{is, Mutant as M};
-use crate::state::{Inline, Kind, Text};
+use crate::numbers::in_range;
+use crate::state::{Inline, Sort, Text};
 
-/// Every code with the number of its fixed arguments.
+/// Every code with the number of its fixed arguments in the older edition.
+#[rustfmt::skip]
 pub const COMMANDS: [(u8, usize); 32] = [
     (33, 2), (36, 3), (49, 1), (50, 5), (52, 2), (58, 2), (59, 0), (66, 1), (67, 0), (68, 0), (70, 0),
     (71, 2), (72, 0), (80, 1), (81, 0), (82, 0), (88, 0), (94, 3), (98, 3), (99, 1), (100, 4), (101, 2),
     (103, 6), (105, 2), (106, 5), (107, 1), (108, 4), (112, 2), (114, 5), (120, 5), (121, 2), (173, 2),
 ];
 
+/// Those that name a file: in the newer edition its number has a byte more, and a size two.
+pub const NAMING: [u8; 5] = [36, 94, 49, 98, 173];
+
 /// `None` for an unknown code.
-pub fn arguments(code: u8) -> Option<usize> {
-    COMMANDS.iter().find(|&&(known, _)| known == code).map(|&(_, needs)| needs)
+pub fn arguments(code: u8, edition: u8) -> Option<usize> {
+    let &(_, older) = COMMANDS.iter().find(|&&(known, _)| known == code)?;
+    let more = match code {
+        36 | 94 => number_bytes(edition) + size_bytes(edition) - 3,
+        49 if is(M::FontChoiceKeepsOneByte) => 0,
+        98 if is(M::SavedBitmapKeepsOneByte) => 0,
+        173 if is(M::DeleteKeepsOneByte) => 0,
+        49 | 98 | 173 => number_bytes(edition) - 1,
+        _ => 0,
+    };
+    Some(older + more)
 }
 
 impl Machine<'_> {
@@ -25,9 +40,9 @@ impl Machine<'_> {
     pub fn obey(&mut self, code: u8, a: &[u8]) -> Result<Footprint, u8> {
         match code {
             33 => self.purge(a),
-            36 => self.upload_begins(Kind::Font, a),
-            94 => self.upload_begins(Kind::Bitmap, a),
-            49 => self.choose_font(a[0]),
+            36 => self.upload_begins(Sort::Font, a),
+            94 => self.upload_begins(Sort::Bitmap, a),
+            49 => self.choose_font(a),
             50 => self.text_metrics(a),
             52 => self.serial(a),
             58 => self.flow_on(a),
@@ -210,19 +225,27 @@ impl Machine<'_> {
         Ok(Footprint::rectangle(a[0], a[1], a[2], a[3]))
     }
 
+    /// 173: 20, 19, 22.
     fn delete(&mut self, a: &[u8]) -> Result<Footprint, u8> {
-        let kind = match a[0] {
-            1 if is(M::DeleteTypesFromOne) => Kind::Font,
-            2 if is(M::DeleteTypesFromOne) => Kind::Bitmap,
-            0 => Kind::Font,
-            1 => Kind::Bitmap,
+        let (number, _) = self.number(173, &a[1..]);
+        if is(M::DeleteRangeBeforeType) {
+            in_range(173, number)?;
+        }
+        let sort = match a[0] {
+            1 if is(M::DeleteTypesFromOne) => Sort::Font,
+            2 if is(M::DeleteTypesFromOne) => Sort::Bitmap,
+            0 => Sort::Font,
+            1 => Sort::Bitmap,
             _ => return Err(20),
         };
-        if !self.files.delete(kind, a[1]) {
+        in_range(173, number)?;
+        if self.file(sort, number).is_none() || !self.files.delete(sort, number) {
             return Err(22);
         }
-        let of_fonts = kind == Kind::Font || is(M::DeletedBitmapResetsFont);
-        if of_fonts && a[1] == self.state.text.font && !is(M::DeletedFontStaysCurrent) {
+        let of_fonts = sort == Sort::Font || is(M::DeletedBitmapResetsFont);
+        let current = self.state.text.font;
+        let same = if is(M::DeletedFontComparedByLowByte) { number % 256 == current % 256 } else { number == current };
+        if of_fonts && same && !is(M::DeletedFontStaysCurrent) {
             self.state.text.font = 1;
         }
         Ok(Footprint::Nothing)

@@ -1,16 +1,18 @@
 //! Names for the several reasons of one refusal, for the counts.
 
+use crate::coverage_edition::{named, split_size};
 use crate::files::Files;
 use crate::font::Font;
 use crate::machine::{Step, Subject};
-use crate::state::{Kind, State};
+use crate::state::{Sort, State};
 
 /// Every reason that the generated streams must reach.
+#[rustfmt::skip]
 pub const REASONS: [&str; 25] = [
     "font too short", "font nominal 0", "font nominal over 240", "font height 0", "font higher than the glass",
     "font first after last", "font table cut short", "font width 0", "font width over 240", "font glyph beyond",
     "bitmap too short", "bitmap width 0", "bitmap height 0", "bitmap longer", "bitmap shorter",
-    "upload size 0", "upload 63 files", "upload no room", "upload font 1", "upload number held",
+    "upload size 0", "upload records full", "upload no room", "upload font 1", "upload number held",
     "no room with wrap off", "no room at the left margin", "no room below after wrapping", "no room below",
     "broken upload with bytes confirmed",
 ];
@@ -18,18 +20,20 @@ pub const REASONS: [&str; 25] = [
 /// Why a refused thing was refused, where the number alone does not say it.
 pub fn reason(step: &Step, files: &Files, state: &State, confirmed: usize) -> Option<&'static str> {
     let refusal = step.outcome.clone().err()?;
-    let a = &step.arguments;
+    let number = named(step, state.edition);
     match (step.subject, refusal) {
-        (Subject::Command(49), 23) => font_fault(&files.find(Kind::Font, a[0])?.bytes, state.height),
+        (Subject::Command(49), 23) => font_fault(&files.find(Sort::Font, number?)?.bytes, state.height),
         (Subject::Character(_) | Subject::Command(71), 23) => {
-            font_fault(&files.find(Kind::Font, state.text.font)?.bytes, state.height)
+            font_fault(&files.find(Sort::Font, state.text.font)?.bytes, state.height)
         }
-        (Subject::Command(98), 23) => bitmap_fault(&files.find(Kind::Bitmap, a[0])?.bytes),
-        (Subject::Command(36), 25) if a[0] == 1 => Some("upload font 1"),
+        (Subject::Command(98), 23) => bitmap_fault(&files.find(Sort::Bitmap, number?)?.bytes),
+        (Subject::Command(36), 25) if number == Some(1) => Some("upload font 1"),
         (Subject::Command(36 | 94), 25) => Some("upload number held"),
-        (Subject::Command(36 | 94), 24) if a[1] == 0 && a[2] == 0 => Some("upload size 0"),
-        (Subject::Command(36 | 94), 24) if files.list.len() == 63 => Some("upload 63 files"),
-        (Subject::Command(36 | 94), 24) => Some("upload no room"),
+        (Subject::Command(36 | 94), 24) if split_size(step, state.edition) == 0 => Some("upload size 0"),
+        (Subject::Command(36 | 94), 24) if split_size(step, state.edition) as usize > files.unused() => {
+            Some("upload no room")
+        }
+        (Subject::Command(36 | 94), 24) => Some("upload records full"),
         (Subject::UploadBroken, 26) if confirmed > 0 => Some("broken upload with bytes confirmed"),
         (Subject::Character(character), 29) => Some(no_room(character, files, state)),
         _ => None,
@@ -77,7 +81,7 @@ fn bitmap_fault(f: &[u8]) -> Option<&'static str> {
 
 /// The refused character left the text point where it was.
 fn no_room(character: u8, files: &Files, state: &State) -> &'static str {
-    let file = files.find(Kind::Font, state.text.font).and_then(|file| Font::open(&file.bytes, state.height));
+    let file = files.find(Sort::Font, state.text.font).and_then(|file| Font::open(&file.bytes, state.height));
     let width = file.map_or(5, |font| if font.has(character) { font.width(character) } else { font.nominal });
     no_room_of(width, state)
 }

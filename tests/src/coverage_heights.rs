@@ -1,9 +1,10 @@
 //! What the rows below 64 add to the counts, on each glass.
 
+use crate::coverage_edition::named;
 use crate::files::Files;
 use crate::footprint::Footprint;
 use crate::machine::{BarEvent, Step, Subject};
-use crate::state::{Kind, State};
+use crate::state::{Sort, State};
 
 /// Every one of these must be met by the generated streams.
 pub const HEIGHT_REASONS: [&str; 30] = [
@@ -45,8 +46,8 @@ pub fn height_reasons(step: &Step, files: &Files, state: &State) -> Vec<&'static
         Ok(footprint) => done(step, footprint, state),
         Err(refusal) => refused(step, *refusal, state),
     };
-    if let (Subject::Command(49), Some(&number)) = (step.subject, step.arguments.first()) {
-        let rows = files.find(Kind::Font, number).and_then(|file| file.bytes.get(1).copied()).unwrap_or(0);
+    if let (Subject::Command(49), Some(number)) = (step.subject, named(step, state.edition)) {
+        let rows = files.find(Sort::Font, number).and_then(|file| file.bytes.get(1).copied()).unwrap_or(0);
         match (state.height, rows, step.outcome.is_ok()) {
             (128, 65..=128, true) => all.push("font of 65 to 128 rows chosen"),
             (64, 65..=128, false) => all.push("font of 65 to 128 rows refused on the low glass"),

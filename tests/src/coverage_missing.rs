@@ -11,6 +11,7 @@ use crate::missing::IGNORED;
 use crate::state::{State, Text};
 
 /// Each must be met on each glass.
+#[rustfmt::skip]
 const BOXES: [&str; 27] = [
     "in the built-in font", "in an uploaded font", "below the first", "above the last",
     "on the line with wrap on", "on the line with wrap off", "to the last column", "to the last row",
@@ -23,6 +24,7 @@ const BOXES: [&str; 27] = [
 ];
 
 /// Each must be met on each glass by each of the three bytes.
+#[rustfmt::skip]
 const SIGNS: [&str; 8] = [
     "ignored in the built-in font", "ignored in an uploaded font", "ignored where a box would wrap",
     "ignored where a box has no room", "ignored beside a sure bar", "is a glyph", "refused 22", "refused 23",
@@ -52,7 +54,14 @@ fn sign_name(rows: u8, byte: u8, what: &str) -> String {
 
 impl Coverage {
     /// With the text settings and the sure bars before the step, and the bars that are sure after it.
-    pub fn missing_letter(&mut self, step: &Step, files: &Files, state: &State, before: (&Text, [bool; 16]), sure_now: [bool; 16]) {
+    pub fn missing_letter(
+        &mut self,
+        step: &Step,
+        files: &Files,
+        state: &State,
+        before: (&Text, [bool; 16]),
+        sure_now: [bool; 16],
+    ) {
         let Subject::Character(byte) = step.subject else {
             return;
         };

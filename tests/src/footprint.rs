@@ -9,7 +9,12 @@ pub enum Footprint {
     /// Single dots, some perhaps beyond the glass.
     Dots(Vec<(usize, usize)>),
     /// Columns x1 to x2 and rows y1 to y2, perhaps reaching beyond the glass.
-    Rectangle { x1: usize, y1: usize, x2: usize, y2: usize },
+    Rectangle {
+        x1: usize,
+        y1: usize,
+        x2: usize,
+        y2: usize,
+    },
 }
 
 impl Footprint {

@@ -1,34 +1,40 @@
-//! Meaningful byte streams, made from a seed.
+//! Meaningful streams of bytes and times, made from a seed.
 //!
 //! The stream is built piece by piece beside a board that obeys it, so that
 //! later pieces can use the bars, files and fonts that earlier ones made.
 
 use crate::board::Board;
+use crate::commands::{arguments, COMMANDS, NAMING};
+use crate::edition::{number_bytes, EDITIONS, NEWER, OLDER};
 use crate::generator_start::{random_glass, random_queue, random_state, random_store};
 use crate::glass::HEIGHTS;
+use crate::input::{of_bytes, only_bytes, Input};
+use crate::listing::PROGRAM_STORE;
 use crate::prng::Prng;
 
+#[rustfmt::skip]
 pub const EDGES: [u8; 33] = [
     0, 1, 2, 3, 4, 7, 8, 9, 14, 15, 16, 31, 32, 39, 40, 41, 62, 63, 64, 65, 79, 80, 126, 127, 128, 135, 136, 238, 239,
     240, 241, 254, 255,
 ];
 
-/// A board to begin with and the bytes to feed it.
+/// A board to begin with and the inputs to give it.
 #[derive(Clone, Debug)]
 pub struct Scene {
     pub seed: u64,
     pub begin: Board,
-    pub stream: Vec<u8>,
+    pub stream: Vec<Input>,
 }
 
-/// A stream from a fresh start on the program's store of 32,768 zero bytes.
+/// A stream from a fresh start on the program's store, of the older edition and without times, as the program is.
 pub fn program_stream(font: &[u8], height: u8, seed: u64) -> Vec<u8> {
-    stream(&Board::fresh(font, height, vec![0; 32768]), &mut Prng::new(seed))
+    let begin = Board::fresh(font, height, OLDER, vec![0; PROGRAM_STORE]);
+    only_bytes(&stream(&begin, &mut Prng::new(seed), false)).expect("bytes only")
 }
 
-/// A stream from a fresh start of the low glass on a store of 1,024 zero bytes.
-pub fn small_stream(font: &[u8], height: u8, seed: u64) -> Vec<u8> {
-    stream(&Board::fresh(font, height, vec![0; 1024]), &mut Prng::new(seed))
+/// A stream from a fresh start on a store of 1,024 zero bytes.
+pub fn small_stream(font: &[u8], height: u8, edition: u8, seed: u64) -> Vec<Input> {
+    stream(&Board::fresh(font, height, edition, vec![0; 1024]), &mut Prng::new(seed), true)
 }
 
 /// Two seeds for one glass, then two for the other: even and odd ones meet both.
@@ -36,48 +42,54 @@ pub fn height_of(seed: u64) -> u8 {
     HEIGHTS[(seed / 2 % 2) as usize]
 }
 
+/// Four seeds for one edition, then four for the other: each height meets both.
+pub fn edition_of(seed: u64) -> u8 {
+    EDITIONS[(seed / 4 % 2) as usize]
+}
+
 /// A stream from a fresh start, on a store of any size with files and leftovers.
 pub fn fresh_scene(font: &[u8], seed: u64) -> Scene {
     let mut rng = Prng::new(seed);
     let height = height_of(seed);
-    let begin = Board::fresh(font, height, random_store(&mut rng, height));
-    let stream = stream(&begin, &mut rng);
+    let begin = Board::fresh(font, height, edition_of(seed), random_store(&mut rng, height));
+    let stream = stream(&begin, &mut rng, true);
     Scene { seed, begin, stream }
 }
 
 /// A stream from any sound state.
 pub fn any_scene(font: &[u8], seed: u64) -> Scene {
     let mut rng = Prng::new(seed ^ 0xA5A5_0000);
-    let height = height_of(seed);
-    let mut begin = Board::fresh(font, height, random_store(&mut rng, height));
+    let (height, edition) = (height_of(seed), edition_of(seed));
+    let mut begin = Board::fresh(font, height, edition, random_store(&mut rng, height));
     begin.glass = random_glass(&mut rng, height);
-    begin.state = random_state(&mut rng, height, &begin.store);
+    begin.state = random_state(&mut rng, height, edition, &begin.store);
     begin.queue = random_queue(&mut rng);
-    let stream = stream(&begin, &mut rng);
+    let stream = stream(&begin, &mut rng, true);
     Scene { seed, begin, stream }
 }
 
-fn stream(begin: &Board, rng: &mut Prng) -> Vec<u8> {
+fn stream(begin: &Board, rng: &mut Prng, with_times: bool) -> Vec<Input> {
     let flavour = rng.pick(&[Flavour::Mixed, Flavour::Mixed, Flavour::Bars, Flavour::Text, Flavour::Files]);
-    let mut maker = Maker { board: begin.clone(), rng: rng.clone(), flavour };
-    let mut bytes = Vec::new();
+    let times = if with_times { rng.pick(&[0, 1, 1, 4]) } else { 0 };
+    let mut maker = Maker { board: begin.clone(), rng: rng.clone(), flavour, with_times, times };
+    let mut inputs = Vec::new();
     for _ in 0..maker.rng.between(20, 120) {
         let piece = maker.piece();
-        maker.board.feed(&piece, 2 * piece.len());
-        bytes.extend(piece);
-        bytes.extend(maker.leave_long_waits());
+        maker.board.run(&piece);
+        inputs.extend(piece);
+        inputs.extend(maker.leave_long_waits());
         if maker.rng.percent(1) {
             // a piece that is broken off somewhere
             let piece = maker.piece();
             let part = &piece[..maker.rng.below(piece.len() + 1)];
-            maker.board.feed(part, 2 * part.len());
-            bytes.extend(part);
+            maker.board.run(part);
+            inputs.extend(part);
         }
     }
     if maker.rng.percent(30) {
-        bytes.truncate(maker.rng.below(bytes.len() + 1));
+        inputs.truncate(maker.rng.below(inputs.len() + 1));
     }
-    bytes
+    inputs
 }
 
 /// What a stream is mostly about.
@@ -94,6 +106,10 @@ pub struct Maker {
     pub board: Board,
     pub rng: Prng,
     flavour: Flavour,
+    /// Whether time may pass at all.
+    with_times: bool,
+    /// How often in a hundred it does before a byte.
+    pub times: usize,
 }
 
 impl Maker {
@@ -130,6 +146,10 @@ impl Maker {
         self.board.state.height as usize
     }
 
+    pub fn edition(&self) -> u8 {
+        self.board.state.edition
+    }
+
     /// This many rows above the lower edge of the glass, and now and then above row 64.
     pub fn above_the_edge(&mut self, rows: usize) -> u8 {
         let edge = if self.rng.percent(75) { self.height() } else { 64 };
@@ -148,20 +168,28 @@ impl Maker {
         [x1, y1, x2, y2]
     }
 
-    fn piece(&mut self) -> Vec<u8> {
-        let weights: [usize; 21] = match self.flavour {
-            Flavour::Mixed => [12, 10, 14, 5, 16, 5, 7, 3, 3, 2, 7, 3, 4, 5, 1, 1, 1, 1, 1, 4, 6],
-            Flavour::Bars => [2, 8, 60, 5, 4, 0, 2, 0, 0, 0, 3, 0, 4, 2, 0, 1, 0, 0, 0, 1, 8],
-            Flavour::Text => [2, 2, 3, 1, 50, 12, 10, 4, 1, 0, 10, 2, 1, 4, 1, 1, 0, 0, 1, 2, 16],
-            Flavour::Files => [3, 2, 1, 1, 8, 1, 20, 8, 8, 8, 14, 16, 1, 3, 0, 1, 2, 3, 1, 1, 4],
+    fn piece(&mut self) -> Vec<Input> {
+        if self.with_times && self.rng.percent(3) {
+            return self.waiting();
+        }
+        let bytes = self.piece_of_bytes();
+        self.with_times_between(&bytes)
+    }
+
+    fn piece_of_bytes(&mut self) -> Vec<u8> {
+        let weights: [usize; 22] = match self.flavour {
+            Flavour::Mixed => [12, 10, 14, 5, 16, 5, 7, 3, 3, 2, 7, 3, 4, 5, 1, 1, 1, 1, 1, 4, 6, 5],
+            Flavour::Bars => [2, 8, 60, 5, 4, 0, 2, 0, 0, 0, 3, 0, 4, 2, 0, 1, 0, 0, 0, 1, 8, 0],
+            Flavour::Text => [2, 2, 3, 1, 50, 12, 10, 4, 1, 0, 10, 2, 1, 4, 1, 1, 0, 0, 1, 2, 16, 2],
+            Flavour::Files => [3, 2, 1, 1, 8, 1, 20, 8, 8, 8, 14, 16, 1, 3, 0, 1, 2, 3, 1, 1, 4, 14],
         };
         let mut left = self.rng.below(weights.iter().sum());
-        let mut kind = 0;
-        while left >= weights[kind] {
-            left -= weights[kind];
-            kind += 1;
+        let mut choice = 0;
+        while left >= weights[choice] {
+            left -= weights[choice];
+            choice += 1;
         }
-        match kind {
+        match choice {
             0 => self.any_command(),
             1 => self.drawing(),
             2 => self.bars(),
@@ -182,7 +210,8 @@ impl Maker {
             17 => self.fill_area(),
             18 => vec![254, 33, 89, 33],
             19 => self.settings(),
-            _ => self.missing(),
+            20 => self.missing(),
+            _ => self.any_number(),
         }
     }
 
@@ -200,11 +229,17 @@ impl Maker {
 
     /// Any code with its number of arguments, each an edge or anything.
     fn any_command(&mut self) -> Vec<u8> {
-        let (code, needs) = self.rng.pick(&crate::commands::COMMANDS);
+        let (code, _) = self.rng.pick(&COMMANDS);
+        let needs = arguments(code, self.edition()).expect("a known code");
         let mut bytes = vec![254, code];
         bytes.extend((0..needs).map(|_| self.edge()));
+        if self.edition() == NEWER && NAMING.contains(&code) && self.rng.percent(80) {
+            // else few numbers and sizes would be good ones
+            bytes[if code == 173 { 4 } else { 3 }] %= 5;
+            bytes.iter_mut().skip(6).for_each(|byte| *byte = 0);
+        }
         if code == 98 && self.rng.percent(50) {
-            bytes.truncate(3);
+            bytes.truncate(2 + number_bytes(self.edition()));
         }
         bytes
     }
@@ -230,57 +265,13 @@ impl Maker {
         }
     }
 
-    fn strips(&mut self) -> Vec<u8> {
-        let n = self.rng.below(8) as u8;
-        let direction = self.rng.pick(&[0, 128]);
-        if self.board.state.strips[n as usize].is_some() && self.rng.percent(70) {
-            return vec![254, 107, n | direction];
-        }
-        let x1 = self.rng.below(238) as u8;
-        let y1 = self.rng.below(self.height() - 2) as u8;
-        let x2 = self.rng.between(x1 as usize + 1, 239.min(x1 as usize + 40)) as u8;
-        let y2 = self.rng.between(y1 as usize + 1, self.height() - 1) as u8;
-        vec![254, 106, n, x1, y1, x2, y2, 254, 107, n | direction]
-    }
-
-    fn metrics(&mut self) -> Vec<u8> {
-        if self.rng.percent(40) {
-            let scroll_row = self.above_the_edge(0);
-            return vec![254, 50, 0, 0, self.rng.below(2) as u8, 1, scroll_row, 254, 67, 254, 81, 254, 72];
-        }
-        let left = self.rng.pick(&[0, 0, 0, 3, 20, 200, 230, 236, 239, 240, 255]);
-        let height = self.height() as u8;
-        let top = self.rng.pick(&[0, 0, 0, 2, 30, height - 7, height - 4, height - 1, height, 255]);
-        let space = self.rng.pick(&[0, 0, 1, 2, 9, 255]);
-        let line = self.rng.pick(&[0, 1, 1, 3, 20, 64, 255]);
-        let scroll_row = self.rng.pick(&[height, height, height, 64, 0, 16, 32, height - 1, height + 1, height + 7, 200, 255]);
-        let mut bytes = vec![254, 50, left, top, space, line, scroll_row];
-        if self.rng.percent(40) {
-            bytes.extend([254, self.rng.pick(&[72, 88, 72])]);
-        }
-        bytes
-    }
-
-    fn in_line(&mut self) -> Vec<u8> {
-        let (x1, y1) = (self.column(), self.row());
-        let x2 = x1.saturating_add(self.rng.pick(&[0, 1, 6, 7, 8, 9, 15, 16, 23, 30]));
-        let y2 = y1.saturating_add(self.rng.pick(&[0, 0, 1, 2, 5, 9, 20]));
-        let total = (x2 as usize - x1 as usize + 8) / 8 * (y2 as usize - y1 as usize + 1);
-        let mut bytes = vec![254, 100, x1, y1, x2, y2];
-        bytes.extend((0..total).map(|_| self.rng.pick(&[0, 1, 85, 128, 170, 254, 255])));
-        if self.rng.percent(10) {
-            (bytes[2], bytes[4]) = (bytes[4], bytes[2]);
-        }
-        bytes
-    }
-
     fn noise(&mut self) -> Vec<u8> {
         let count = self.rng.between(1, 30);
         (0..count).map(|_| if self.rng.percent(20) { 254 } else { self.rng.byte() }).collect()
     }
 
     /// Ends long data in line or a long upload that a chance command began.
-    fn leave_long_waits(&mut self) -> Vec<u8> {
+    fn leave_long_waits(&mut self) -> Vec<Input> {
         let mut bytes = Vec::new();
         if let Some(inline) = self.board.state.inline {
             let left = inline.total() - inline.come;
@@ -294,6 +285,6 @@ impl Maker {
             }
         }
         self.board.feed(&bytes, 2 * bytes.len());
-        bytes
+        of_bytes(&bytes)
     }
 }

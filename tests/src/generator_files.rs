@@ -24,7 +24,8 @@ pub fn good_font(rng: &mut Prng, rows: u8) -> Vec<u8> {
         _ => rng.between(40, 90),
     };
     let widest = if height > 12 { 6 } else { 14 };
-    let mut header = vec![rng.pick(&[1, 3, 5, 8, 20, 100, 240]) as u8, height as u8, first as u8, (first + count - 1) as u8];
+    let mut header =
+        vec![rng.pick(&[1, 3, 5, 8, 20, 100, 240]) as u8, height as u8, first as u8, (first + count - 1) as u8];
     let gap = if rng.percent(20) { rng.below(4) } else { 0 };
     let mut offset = 4 + 3 * count + gap;
     let mut glyphs = vec![rng.byte(); gap];
@@ -62,7 +63,8 @@ pub fn bad_font(rng: &mut Prng, rows: u8) -> Vec<u8> {
         4 => {
             // on the low glass most often one that the tall one would take
             let rows = rows as usize;
-            font[1] = [rows + 1, rng.between(rows + 1, rows + 6), rng.between(rows + 1, 2 * rows - 1)][rng.below(3)] as u8;
+            font[1] =
+                [rows + 1, rng.between(rows + 1, rows + 6), rng.between(rows + 1, 2 * rows - 1)][rng.below(3)] as u8;
             font.resize(font.len() + 14 * font[1] as usize / 8 + 1, 7);
         }
         5 => (font[2], font[3]) = (font[3].max(1), font[2].min(font[3].max(1) - 1)),

@@ -46,7 +46,11 @@ impl Maker {
             2 => self.rng.pick(&[0, 7, 9, 11, 12, 14, 27, 31, 127, 128, 253, 255]),
             _ => self.rng.byte(),
         };
-        if font.lacks(byte) && !IGNORED.contains(&byte) { byte } else { self.rng.pick(&[1, 129, 255]) }
+        if font.lacks(byte) && !IGNORED.contains(&byte) {
+            byte
+        } else {
+            self.rng.pick(&[1, 129, 255])
+        }
     }
 
     /// A text point from which the box just fits, or passes by one: to the right, below, or on the next line.

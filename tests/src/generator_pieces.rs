@@ -1,15 +1,11 @@
-//! Pieces of streams about bars, text, files and competing refusals.
+//! Pieces of streams about bars, strips, text, data in line and competing refusals.
 
-use crate::case_file::upload;
 use crate::files::Files;
-use crate::font::Bitmap;
 use crate::generator::Maker;
-use crate::generator_files::{bad_bitmap, bad_font, good_bitmap, good_font};
 use crate::measures::Measures;
-use crate::state::Kind;
 
 impl Maker {
-    fn files(&self) -> Files {
+    pub fn files(&self) -> Files {
         Files::read(&self.board.store).expect("a good directory")
     }
 
@@ -102,132 +98,48 @@ impl Maker {
         self.measures().map_or((32, 126), |font| (font.first, font.last))
     }
 
-    fn kind_code(&mut self) -> (Kind, u8) {
-        if self.rng.percent(50) {
-            (Kind::Font, 36)
-        } else {
-            (Kind::Bitmap, 94)
+    pub fn strips(&mut self) -> Vec<u8> {
+        let n = self.rng.below(8) as u8;
+        let direction = self.rng.pick(&[0, 128]);
+        if self.board.state.strips[n as usize].is_some() && self.rng.percent(70) {
+            return vec![254, 107, n | direction];
         }
+        let x1 = self.rng.below(238) as u8;
+        let y1 = self.rng.below(self.height() - 2) as u8;
+        let x2 = self.rng.between(x1 as usize + 1, 239.min(x1 as usize + 40)) as u8;
+        let y2 = self.rng.between(y1 as usize + 1, self.height() - 1) as u8;
+        vec![254, 106, n, x1, y1, x2, y2, 254, 107, n | direction]
     }
 
-    pub fn good_upload(&mut self) -> Vec<u8> {
-        let (kind, code) = self.kind_code();
-        let number = self.rng.pick(&[0, 1, 2, 3, 4, 5, 254, 255]);
-        let file = match kind {
-            Kind::Font => good_font(&mut self.rng, self.board.state.height),
-            Kind::Bitmap => good_bitmap(&mut self.rng),
-        };
-        if self.files().upload_refused(kind, number, file.len()).is_some() {
-            // its data would only be read as characters
-            return vec![254, code, number, file.len() as u8, (file.len() / 256) as u8];
+    pub fn metrics(&mut self) -> Vec<u8> {
+        if self.rng.percent(40) {
+            let scroll_row = self.above_the_edge(0);
+            return vec![254, 50, 0, 0, self.rng.below(2) as u8, 1, scroll_row, 254, 67, 254, 81, 254, 72];
         }
-        let mut bytes = upload(code, number, &file);
-        if kind == Kind::Font && self.rng.percent(60) {
-            bytes.extend([254, 49, number]);
+        let left = self.rng.pick(&[0, 0, 0, 3, 20, 200, 230, 236, 239, 240, 255]);
+        let height = self.height() as u8;
+        let top = self.rng.pick(&[0, 0, 0, 2, 30, height - 7, height - 4, height - 1, height, 255]);
+        let space = self.rng.pick(&[0, 0, 1, 2, 9, 255]);
+        let line = self.rng.pick(&[0, 1, 1, 3, 20, 64, 255]);
+        let scroll_row =
+            self.rng.pick(&[height, height, height, 64, 0, 16, 32, height - 1, height + 1, height + 7, 200, 255]);
+        let mut bytes = vec![254, 50, left, top, space, line, scroll_row];
+        if self.rng.percent(40) {
+            bytes.extend([254, self.rng.pick(&[72, 88, 72])]);
         }
         bytes
     }
 
-    pub fn bad_upload(&mut self) -> Vec<u8> {
-        let (kind, code) = self.kind_code();
-        let number = self.rng.pick(&[2, 3, 6, 7]);
-        let file = match kind {
-            Kind::Font => bad_font(&mut self.rng, self.board.state.height),
-            Kind::Bitmap => bad_bitmap(&mut self.rng),
-        };
-        if self.files().upload_refused(kind, number, file.len()).is_some() {
-            return vec![254, 173, (kind == Kind::Bitmap) as u8, number];
+    pub fn in_line(&mut self) -> Vec<u8> {
+        let (x1, y1) = (self.column(), self.row());
+        let x2 = x1.saturating_add(self.rng.pick(&[0, 1, 6, 7, 8, 9, 15, 16, 23, 30]));
+        let y2 = y1.saturating_add(self.rng.pick(&[0, 0, 1, 2, 5, 9, 20]));
+        let total = (x2 as usize - x1 as usize + 8) / 8 * (y2 as usize - y1 as usize + 1);
+        let mut bytes = vec![254, 100, x1, y1, x2, y2];
+        bytes.extend((0..total).map(|_| self.rng.pick(&[0, 1, 85, 128, 170, 254, 255])));
+        if self.rng.percent(10) {
+            (bytes[2], bytes[4]) = (bytes[4], bytes[2]);
         }
-        let mut bytes = upload(code, number, &file);
-        match kind {
-            Kind::Font => bytes.extend([254, 49, number]),
-            Kind::Bitmap => bytes.extend([254, 98, number, self.column(), self.row()]),
-        }
-        bytes
-    }
-
-    /// Some bytes confirmed, then another byte than 1.
-    pub fn broken_upload(&mut self) -> Vec<u8> {
-        let (_, code) = self.kind_code();
-        let size = self.rng.between(1, 20);
-        let mut bytes = vec![254, code, self.rng.between(10, 14) as u8, size as u8, 0];
-        for _ in 0..self.rng.below(size) {
-            bytes.extend([self.rng.byte(), 1]);
-        }
-        bytes.extend([self.rng.byte(), self.rng.pick(&[0, 2, 8, 254, 255])]);
-        bytes
-    }
-
-    pub fn refused_upload(&mut self) -> Vec<u8> {
-        let files = self.files();
-        let (_, code) = self.kind_code();
-        let too_big = files.unused() + 1;
-        let taken = files.list.first().map_or(1, |file| file.number);
-        match self.rng.below(5) {
-            0 => vec![254, 36, 1, self.edge(), self.edge()],
-            1 => vec![254, code, taken, self.rng.below(2) as u8, 0],
-            2 => vec![254, code, 20, 0, 0],
-            3 => vec![254, code, taken, 255, 255],
-            _ => vec![254, code, 20, too_big as u8, (too_big / 256) as u8],
-        }
-    }
-
-    /// Chooses fonts and paints bitmaps that are there, or are not.
-    pub fn use_files(&mut self) -> Vec<u8> {
-        let files = self.files();
-        if files.list.is_empty() || self.rng.percent(10) {
-            return vec![254, self.rng.pick(&[49, 98]), self.edge()];
-        }
-        let file = &files.list[self.rng.below(files.list.len())];
-        match file.kind {
-            Kind::Font => vec![254, 49, file.number],
-            Kind::Bitmap => {
-                let (mut x, mut y) = (self.column(), self.row());
-                if let Some(bitmap) = Bitmap::open(&file.bytes).filter(|_| self.rng.percent(40)) {
-                    // across the right and lower edge
-                    x = (240 - bitmap.width.min(240) / 2).min(255) as u8;
-                    let edge = self.above_the_edge(0) as usize;
-                    y = (edge - bitmap.height.min(edge) / 2) as u8;
-                }
-                vec![254, 98, file.number, x, y]
-            }
-        }
-    }
-
-    pub fn delete(&mut self) -> Vec<u8> {
-        let files = self.files();
-        if files.list.is_empty() || self.rng.percent(20) {
-            return vec![254, 173, self.rng.below(4) as u8, self.edge()];
-        }
-        let file = &files.list[self.rng.below(files.list.len())];
-        vec![254, 173, (file.kind == Kind::Bitmap) as u8, file.number]
-    }
-
-    /// One-byte files until there are 63, then one more of each kind.
-    pub fn fill_directory(&mut self) -> Vec<u8> {
-        let files = self.files();
-        let mut bytes = Vec::new();
-        let mut count = files.list.len();
-        for number in 30..=200 {
-            if count < 63 && files.find(Kind::Bitmap, number).is_none() {
-                bytes.extend(upload(94, number, &[number]));
-                count += 1;
-            }
-        }
-        bytes.extend([254, 94, 250, 1, 0, 254, 36, 250, 1, 0, 254, 94, 30, 1, 0]);
-        bytes
-    }
-
-    /// One file for all the room that is left, when that is not much.
-    pub fn fill_area(&mut self) -> Vec<u8> {
-        let unused = self.files().unused();
-        let number = self.rng.between(21, 25) as u8;
-        if unused == 0 || unused > 900 || self.files().upload_refused(Kind::Bitmap, number, unused).is_some() {
-            return vec![254, 173, 1, number];
-        }
-        let file: Vec<u8> = (0..unused).map(|_| self.rng.byte()).collect();
-        let mut bytes = upload(94, number, &file);
-        bytes.extend([254, 94, 26, 1, 0]);
         bytes
     }
 

@@ -1,14 +1,17 @@
 //! Things a stream may begin with: stores, glasses and sound states.
 
-use crate::commands::COMMANDS;
+use crate::commands::{arguments, COMMANDS};
+use crate::directory::{Kind, Record, DIRECTORY, KINDS, RECORDS_MOST};
+use crate::edition::{NEWER, NUMBER_MOST};
 use crate::files::Files;
 use crate::generator_files::{bad_bitmap, bad_font, good_bitmap, good_font};
 use crate::glass::{glass_bytes, Glass};
 use crate::prng::Prng;
 use crate::queue::{Queue, RING};
-use crate::state::{Bar, Gathering, Inline, Kind, State, Strip, Upload};
+use crate::state::{Bar, Gathering, Inline, Sort, State, Strip, Upload};
 
-/// A store of an allowed size with leftovers, and files in it more often than not; its good fonts are good on that glass.
+/// A store of an allowed size with leftovers, and files of every kind in it more often than not;
+/// its good fonts are good on that glass.
 pub fn random_store(rng: &mut Prng, height: u8) -> Vec<u8> {
     let size = match rng.below(10) {
         0 => 32768,
@@ -23,23 +26,57 @@ pub fn random_store(rng: &mut Prng, height: u8) -> Vec<u8> {
             *byte = rng.byte();
         }
     }
-    let (mut record, mut at) = (0, 256);
-    for number in 2..rng.between(2, 7) as u8 {
-        let (kind, file) = match rng.below(6) {
-            0 => (1, bad_font(rng, height)),
-            1 => (2, bad_bitmap(rng)),
-            2 | 3 => (2, good_bitmap(rng)),
-            _ => (1, good_font(rng, height)),
+    if rng.percent(12) {
+        many_records(rng, &mut store);
+        return store;
+    }
+    let mut records = Vec::new();
+    let mut at = DIRECTORY;
+    for k in 2..rng.between(2, 7) as u16 {
+        let (sort, file) = match rng.below(6) {
+            0 => (Sort::Font, bad_font(rng, height)),
+            1 => (Sort::Bitmap, bad_bitmap(rng)),
+            2 | 3 => (Sort::Bitmap, good_bitmap(rng)),
+            _ => (Sort::Font, good_font(rng, height)),
         };
+        let kind = rng.pick(&KINDS.map(|kind| Kind::written_by(kind.edition(), sort)));
+        // each number differs from the others in its low byte too
+        let high = if kind.edition() == NEWER { rng.pick(&[0, 0, 1, 3]) } else { 0 };
         if at + file.len() <= size {
-            store[record..record + 4].copy_from_slice(&[kind, number, file.len() as u8, (file.len() / 256) as u8]);
+            records.push(Record { kind, number: 256 * high + k, size: file.len() as u32 });
             store[at..at + file.len()].copy_from_slice(&file);
-            record += 4;
             at += file.len();
         }
     }
+    put_records(&mut store, &records);
     assert!(Files::read(&store).is_some());
     store
+}
+
+pub fn put_records(store: &mut [u8], records: &[Record]) {
+    let bytes: Vec<u8> = records.iter().flat_map(Record::bytes).collect();
+    store[..DIRECTORY].fill(0);
+    store[..bytes.len()].copy_from_slice(&bytes);
+}
+
+/// One-byte files of mixed kinds whose records come to 252 bytes or a few less or more.
+fn many_records(rng: &mut Prng, store: &mut [u8]) {
+    let newer = rng.pick(&[0, 1, 5, 20, 33, 36]);
+    let mut records = Vec::new();
+    let mut length = 0;
+    let most = rng.between(240, RECORDS_MOST);
+    for number in 100.. {
+        let edition = if records.len() < newer { NEWER } else { crate::edition::OLDER };
+        let kind = Kind::written_by(edition, rng.pick(&[Sort::Font, Sort::Bitmap]));
+        length += kind.record_bytes();
+        if length > most {
+            break;
+        }
+        let place = rng.below(records.len() + 1);
+        records.insert(place, Record { kind, number, size: 1 });
+    }
+    put_records(store, &records);
+    assert!(Files::read(store).is_some());
 }
 
 pub fn random_glass(rng: &mut Prng, height: u8) -> Glass {
@@ -55,10 +92,14 @@ pub fn random_queue(rng: &mut Prng) -> Queue {
 }
 
 /// Any sound state that such a store does not refuse.
-pub fn random_state(rng: &mut Prng, height: u8, store: &[u8]) -> State {
-    let mut state = State::at_start(height);
+pub fn random_state(rng: &mut Prng, height: u8, edition: u8, store: &[u8]) -> State {
+    let mut state = State::at_start(height, edition);
     let text = &mut state.text;
-    text.font = rng.pick(&[1, 1, 2, 3, 4, 5, 6, 9]);
+    let held = Files::read(store).expect("a good directory").list.iter().map(|file| file.number).collect::<Vec<_>>();
+    text.font = rng.pick(&[1, 1, 2, 3, 4, 5, 6, 9, 258, 1024, 65535]);
+    if !held.is_empty() && rng.percent(60) {
+        text.font = rng.pick(&held);
+    }
     text.left = rng.pick(&[0, 0, 7, 239, 255]);
     text.top = rng.pick(&[0, 0, 9, height - 1, 255]);
     text.char_space = rng.pick(&[0, 1, 255]);
@@ -93,7 +134,8 @@ pub fn random_state(rng: &mut Prng, height: u8, store: &[u8]) -> State {
 fn under_way(rng: &mut Prng, state: &mut State, store: &[u8]) {
     match rng.below(5) {
         0 => {
-            let (code, needs) = rng.pick(&COMMANDS);
+            let (code, _) = rng.pick(&COMMANDS);
+            let needs = arguments(code, state.edition).expect("a known code");
             let bytes = if needs == 0 { 0 } else { rng.between(1, needs) };
             let bytes = (0..bytes).map(|k| if k == 0 { code } else { rng.between(0, 60) as u8 }).collect();
             state.gathering = Some(Gathering { bytes });
@@ -105,13 +147,15 @@ fn under_way(rng: &mut Prng, state: &mut State, store: &[u8]) {
             state.inline = Some(inline);
         }
         2 => {
-            let kind = if rng.percent(50) { Kind::Font } else { Kind::Bitmap };
+            let sort = if rng.percent(50) { Sort::Font } else { Sort::Bitmap };
             let size = rng.between(1, 40) as u16;
             let stored = rng.below(size as usize) as u16;
             let echoed = rng.percent(50).then_some(rng.byte());
-            let upload = Upload { kind, number: 40, size, stored, echoed };
+            let number = if state.edition == NEWER { rng.pick(&[40, 40, 400, NUMBER_MOST]) } else { 40 };
+            let waited = rng.pick(&[0, 1, 1000, 2098, 2099]);
+            let upload = Upload { sort, number, size, stored, echoed, waited };
             let files = Files::read(store).expect("a good directory");
-            if files.upload_refused(kind, 40, size as usize).is_none() {
+            if !files.upload_impossible(state.edition, &upload) {
                 state.upload = Some(upload);
             }
         }

@@ -1,11 +1,14 @@
 //! The program's listing of what a stream leaves.
 
 use crate::board::Board;
+use crate::edition::OLDER;
 use crate::glass::{Glass, LOW, TALL, WIDTH};
 use crate::mutants::{is, Mutant as M};
 use std::ffi::OsStr;
 
 pub const REPLIES_SHOWN: usize = 4096;
+/// The program's store starts as so many zero bytes.
+pub const PROGRAM_STORE: usize = 32768;
 
 /// The rows that the program's first argument asks for: exactly `128`, and anything else or nothing is 64.
 pub fn height_asked(argument: Option<&OsStr>) -> u8 {
@@ -23,19 +26,10 @@ pub fn height_asked(argument: Option<&OsStr>) -> u8 {
     }
 }
 
-/// Runs a stream from a fresh start on 32,768 zero bytes and lists the end.
+/// Runs a stream from a fresh start of the older edition on the program's store and lists the end.
 pub fn listing_of_stream(font: &[u8], height: u8, stream: &[u8]) -> String {
-    let mut board = Board::fresh(font, height, vec![0; 32768]);
-    let mut replies = Vec::new();
-    let mut left = stream;
-    while !left.is_empty() {
-        let fed = board.feed(left, 2 * left.len());
-        left = &left[fed.consumed..];
-        replies.extend(fed.replies);
-        if fed.consumed == 0 {
-            break;
-        }
-    }
+    let mut board = Board::fresh(font, height, OLDER, vec![0; PROGRAM_STORE]);
+    let replies = board.feed(stream, 2 * stream.len()).replies;
     listing(&board.glass, board.state.refusals, board.state.last_refusal, &replies)
 }
 

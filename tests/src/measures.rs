@@ -2,7 +2,7 @@
 
 use crate::files::Files;
 use crate::font::Font;
-use crate::state::{Kind, State};
+use crate::state::{Sort, State};
 
 #[derive(Clone, Copy, Debug, PartialEq, Eq)]
 pub struct Measures {
@@ -23,7 +23,7 @@ impl Measures {
         if state.text.font == 1 {
             return Some(BUILT_IN);
         }
-        let font = Font::open(&files.find(Kind::Font, state.text.font)?.bytes, state.height)?;
+        let font = Font::open(&files.find(Sort::Font, state.text.font)?.bytes, state.height)?;
         let widths = (font.first..=font.last).map(|character| font.width(character));
         Some(Measures {
             nominal: font.nominal,

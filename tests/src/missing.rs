@@ -39,7 +39,9 @@ impl Machine<'_> {
                 return Err(29);
             }
             Err(_) if is(M::MissingClippedNotRefused) => self.place_as_it_is(width, height),
-            Err(_) if is(M::MissingWrapsThoughOff) && !self.state.text.wrap => self.wrapped_all_the_same(width, height)?,
+            Err(_) if is(M::MissingWrapsThoughOff) && !self.state.text.wrap => {
+                self.wrapped_all_the_same(width, height)?
+            }
             found => found?,
         };
         paint(self.glass, &place, width, height, self.state.text.char_space as usize, self.state.black);
@@ -81,7 +83,8 @@ impl Machine<'_> {
 
     /// For the wrong version that paints what is on the glass of a box without room.
     fn place_as_it_is(&self, width: usize, height: usize) -> Place {
-        let (x, y, _) = self.after_wrapping(width, height).unwrap_or((self.state.text.x as usize, self.state.text.y as usize, 0));
+        let (x, y, _) =
+            self.after_wrapping(width, height).unwrap_or((self.state.text.x as usize, self.state.text.y as usize, 0));
         Place { x, y, rows_up: 0 }
     }
 
@@ -95,7 +98,8 @@ impl Machine<'_> {
 }
 
 fn ignored(byte: u8, font: &Font) -> bool {
-    let boxed = is(M::ReturnBoxed) && byte == 13 || is(M::LineFeedBoxed) && byte == 10 || is(M::BackSpaceBoxed) && byte == 8;
+    let boxed =
+        is(M::ReturnBoxed) && byte == 13 || is(M::LineFeedBoxed) && byte == 10 || is(M::BackSpaceBoxed) && byte == 8;
     let others = is(M::BellIgnored) && byte == 7
         || is(M::TabIgnored) && byte == 9
         || is(M::FormFeedIgnored) && byte == 12

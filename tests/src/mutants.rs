@@ -68,8 +68,7 @@ mutants! {
     DirectoryTailUnchecked,
     UploadFontOneAllowed,
     UploadBitmapOneInUse,
-    UploadNumberSharedByKinds,
-    UploadSixtyTwoFilesAtMost,
+    UploadNumberSharedBySorts,
     UploadRoomOneShort,
     UploadRoomAfterOldEnd,
     UploadRoomBeforeNumber,
@@ -261,6 +260,101 @@ mutants! {
     AllControlsIgnored,
     BelowFirstIgnored,
     AboveLastIgnored,
+    NumberHighByteFirst,
+    NumberHighByteDropped,
+    FontChoiceKeepsOneByte,
+    SavedBitmapKeepsOneByte,
+    DeleteKeepsOneByte,
+    MissingBitmapEndsAtFirstByte,
+    BitmapRangeWaitsForThePlace,
+    NumberAboveRangeIsNoFile,
+    FontChoiceRangeUnchecked,
+    SavedBitmapRangeUnchecked,
+    DeleteRangeUnchecked,
+    Number1023Refused,
+    Number1024Taken,
+    NumberAbove255Refused,
+    CurrentFontHeldToRange,
+    DeleteRangeBeforeType,
+    DeletedFontComparedByLowByte,
+    OlderBlindToNewerKinds,
+    NewerBlindToOlderKinds,
+    UploadNumberTo1022,
+    UploadNumberTo1024,
+    UploadNumberUnlimited,
+    UploadRoomBeforeRange,
+    UploadRangeRefusedSilently,
+    UploadNumberFreeInOtherKind,
+    UploadFontOneAllowedInTheNewer,
+    UploadSizeLowBytesOnly,
+    UploadRecordsTo256Bytes,
+    UploadRecordsTo254Bytes,
+    UploadRecordCountedAsFour,
+    UploadCounts63FilesOnly,
+    UploadCounts36FilesInTheNewer,
+    KindByNumber,
+    KindAlwaysNewer,
+    DeleteClosesOverFourBytes,
+    DeleteClosesOverSevenBytes,
+    PurgeLeavesNewerKinds,
+    RecordNumberHighByteFirst,
+    RecordSizeHighByteFirst,
+    DirectoryFontOneByKindThree,
+    DirectoryNumberUnlimited,
+    DirectoryNumberTo1024,
+    DirectoryNumberTo1022,
+    DirectorySizeZeroAllowed,
+    DirectorySizeLowBytesOnly,
+    DirectoryTo256Bytes,
+    DirectoryTo254Bytes,
+    DirectoryTwiceByKindOnly,
+    RunningUploadNumberUnlimited,
+    RunningUploadRangeUnchecked,
+    GatheringSoundByTheNewer,
+    RecordEditionUnchecked,
+    RecordEditionZeroIsOlder,
+    RecordEditionBeforeGlass,
+    RecordEditionAfterDirectory,
+    QueueCallsTakeAnyEdition,
+    StartEditionCutToAByte,
+    StartEditionOtherThanNewerIsOlder,
+    StartEditionBeforeGlass,
+    StartDirectoryBeforeEdition,
+    StartKeepsRecordEdition,
+    WaitUncheckedInRecord,
+    WaitSoundTo2100,
+    WaitSoundTo2098,
+    StartKeepsTheWait,
+    WaitKeptAcrossADrop,
+    WaitKeptAcrossUploads,
+    DataKeepsTheWait,
+    ConfirmationKeepsTheWait,
+    DropAt2101,
+    DropAt2099,
+    DropOnlyInTheNextCall,
+    DropSaysNothing,
+    DropSaysOnly212,
+    DropSaysEight,
+    DropSays212First,
+    DropBeginsACommand,
+    DropIsNoRefusal,
+    DropLeavesLastRefusal,
+    TimeEndsACommand,
+    TimeEndsDataInLine,
+    TimeCutToTwoBytes,
+    TimeSumRollsOver,
+    TimeDoesNotAddUp,
+    ZeroTimeStartsAnew,
+    TimeCountsInTheNewerOnly,
+    TimeCountsInTheOlderOnly,
+    TimeCountsForConfirmationsOnly,
+    TimeCountsForDataOnly,
+    TimeWantsRoomInAnUploadOnly,
+    TimeWantsRoomForItsRepliesOnly,
+    TimeOfZeroWantsNoRoom,
+    TimeWantsOneReplyByte,
+    TimeRoomBeforeMemory,
+    TimeUncheckedOutsideAnUpload,
 }
 
 /// Whether this rule is to be broken just now.
@@ -276,13 +370,24 @@ pub fn note_end(_: usize) {}
 
 #[cfg(not(feature = "mutants"))]
 #[inline(always)]
-pub fn forget_end() {}
-
-#[cfg(not(feature = "mutants"))]
-#[inline(always)]
 pub fn highest_end() -> usize {
     0
 }
+
+#[cfg(not(feature = "mutants"))]
+#[inline(always)]
+pub fn note_wait(_: Mutant, _: u32) {}
+
+/// What an upload has waited when it begins.
+#[cfg(not(feature = "mutants"))]
+#[inline(always)]
+pub fn wait_at_start() -> u16 {
+    0
+}
+
+#[cfg(not(feature = "mutants"))]
+#[inline(always)]
+pub fn forget() {}
 
 #[cfg(feature = "mutants")]
 pub use switched::*;
@@ -295,6 +400,7 @@ mod switched {
     thread_local! {
         static NOW: Cell<Option<Mutant>> = const { Cell::new(None) };
         static HIGHEST_END: Cell<usize> = const { Cell::new(0) };
+        static KEPT_WAIT: Cell<u32> = const { Cell::new(0) };
     }
 
     pub fn is(mutant: Mutant) -> bool {
@@ -314,11 +420,24 @@ mod switched {
         HIGHEST_END.with(|highest| highest.set(highest.get().max(end)));
     }
 
-    pub fn forget_end() {
-        HIGHEST_END.with(|highest| highest.set(0));
-    }
-
     pub fn highest_end() -> usize {
         HIGHEST_END.with(Cell::get)
+    }
+
+    /// Only for the wrong versions in which an upload begins with time from before it.
+    pub fn note_wait(mutant: Mutant, milliseconds: u32) {
+        if is(mutant) {
+            KEPT_WAIT.with(|kept| kept.set(kept.get().saturating_add(milliseconds).min(2099)));
+        }
+    }
+
+    pub fn wait_at_start() -> u16 {
+        KEPT_WAIT.with(Cell::take) as u16
+    }
+
+    /// A start begins with none of this.
+    pub fn forget() {
+        HIGHEST_END.with(|highest| highest.set(0));
+        KEPT_WAIT.with(|kept| kept.set(0));
     }
 }

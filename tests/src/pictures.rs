@@ -1,21 +1,29 @@
 //! Saved bitmaps and data in line.
 
+use crate::files::File;
 use crate::font::Bitmap;
 use crate::footprint::Footprint;
 use crate::machine::Machine;
 use crate::mutants::{is, Mutant as M};
-use crate::state::{Inline, Kind};
+use crate::numbers::in_range;
+use crate::state::{Inline, Sort};
 
 impl Machine<'_> {
+    /// The file that 98's number names: 19, 22.
+    pub fn bitmap_named(&self, a: &[u8]) -> Result<&File, u8> {
+        let (number, _) = self.number(98, a);
+        in_range(98, number)?;
+        self.file(Sort::Bitmap, number).ok_or(22)
+    }
+
     /// 98: looked up again, since a lent record may name a file that is gone.
     pub fn saved_bitmap(&mut self, a: &[u8]) -> Result<Footprint, u8> {
-        let Some(file) = self.files.find(Kind::Bitmap, a[0]) else {
-            return Err(22);
-        };
-        let Some(bitmap) = Bitmap::open(&file.bytes) else {
+        let file = self.bitmap_named(a)?.bytes.clone();
+        let (_, place) = self.number(98, a);
+        let Some(bitmap) = Bitmap::open(&file) else {
             return Err(23);
         };
-        let (x, y) = (a[1] as usize, a[2] as usize);
+        let (x, y) = (place[0] as usize, place[1] as usize);
         let rows = self.state.height as usize;
         if is(M::BitmapMustLieOnGlass) && (x + bitmap.width > 240 || y + bitmap.height > rows) {
             return Err(17);

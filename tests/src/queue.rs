@@ -40,7 +40,13 @@ pub struct Taken {
 
 /// `None` stands for a record of the wrong length.
 fn records_refused(state: Option<&State>, queue: &Option<&mut Queue>) -> bool {
-    let sound = if is(M::QueueCallsTakeAnyHeight) { State::sound_but_for_height } else { State::sound };
+    let sound = if is(M::QueueCallsTakeAnyHeight) {
+        State::sound_but_for_height
+    } else if is(M::QueueCallsTakeAnyEdition) {
+        State::sound_but_for_choices
+    } else {
+        State::sound
+    };
     let state_good = state.is_some_and(|s| sound(s) && s.thresholds_fit());
     let queue_good = queue.as_ref().is_some_and(|q| q.sound());
     !(state_good && queue_good)

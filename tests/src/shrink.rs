@@ -1,7 +1,7 @@
 //! Finds a short stream that still fails.
 
 /// Takes out spans, long ones first, as long as the rest still fails.
-pub fn shrink(stream: &[u8], fails: &mut dyn FnMut(&[u8]) -> bool) -> Vec<u8> {
+pub fn shrink<T: Copy>(stream: &[T], fails: &mut dyn FnMut(&[T]) -> bool) -> Vec<T> {
     let mut best = stream.to_vec();
     let mut span = best.len().div_ceil(2);
     while span > 0 {

@@ -1,11 +1,13 @@
 //! The state record as plain fields, and when it is sound.
 
 use crate::commands::arguments;
+use crate::edition::{EDITIONS, NEWER};
 use crate::glass::{on_glass, HEIGHTS};
 use crate::mutants::{is, Mutant as M};
 
+/// What a file is, in whichever of the directory's kinds it is held.
 #[derive(Clone, Copy, Debug, PartialEq, Eq)]
-pub enum Kind {
+pub enum Sort {
     Font,
     Bitmap,
 }
@@ -36,19 +38,31 @@ impl Inline {
     }
 }
 
-/// An upload under way; `echoed` waits for the host's 1.
+/// An upload that has waited so many milliseconds is dropped.
+pub const WAIT_ENDS: u32 = 2100;
+
+/// An upload under way; `echoed` waits for the host's 1. Its size fits two bytes, since it fits the store.
 #[derive(Clone, Copy, Debug, PartialEq, Eq)]
 pub struct Upload {
-    pub kind: Kind,
-    pub number: u8,
+    pub sort: Sort,
+    pub number: u16,
     pub size: u16,
     pub stored: u16,
     pub echoed: Option<u8>,
+    /// Milliseconds since its start or its last byte.
+    pub waited: u16,
+}
+
+impl Upload {
+    /// One that is just beginning.
+    pub fn new(sort: Sort, number: u16, size: u16) -> Upload {
+        Upload { sort, number, size, stored: 0, echoed: None, waited: 0 }
+    }
 }
 
 #[derive(Clone, Debug, PartialEq, Eq)]
 pub struct Text {
-    pub font: u8,
+    pub font: u16,
     pub left: u8,
     pub top: u8,
     pub char_space: u8,
@@ -100,6 +114,8 @@ pub struct Strip {
 pub struct State {
     /// The glass's rows: 64 or 128, chosen at start.
     pub height: u8,
+    /// The upload's edition: 1 older or 2 newer, chosen at start.
+    pub edition: u8,
     pub gathering: Option<Gathering>,
     pub inline: Option<Inline>,
     pub upload: Option<Upload>,
@@ -121,9 +137,10 @@ pub struct State {
 }
 
 impl State {
-    pub fn at_start(height: u8) -> State {
+    pub fn at_start(height: u8, edition: u8) -> State {
         State {
             height,
+            edition,
             gathering: None,
             inline: None,
             upload: None,
@@ -153,23 +170,37 @@ impl State {
         HEIGHTS.contains(&self.height)
     }
 
+    pub fn edition_known(&self) -> bool {
+        let any = is(M::RecordEditionUnchecked) || is(M::RecordEditionZeroIsOlder) && self.edition == 0;
+        EDITIONS.contains(&self.edition) || any
+    }
+
     /// Everything but whether there is a glass of this height.
     pub fn sound_but_for_height(&self) -> bool {
-        let height = if is(M::BarSoundToRow63) { 64 } else if is(M::BarSoundToRow127) { 128 } else { self.height };
+        self.edition_known() && self.sound_but_for_choices()
+    }
+
+    /// Everything but the two things that start chooses.
+    pub fn sound_but_for_choices(&self) -> bool {
+        let height = if is(M::BarSoundToRow63) {
+            64
+        } else if is(M::BarSoundToRow127) {
+            128
+        } else {
+            self.height
+        };
         self.text.x <= if is(M::TextPointSoundTo494) { 494 } else { 495 }
             && self.text.y <= 255
             && self.bars.iter().flatten().all(|bar| bar.sound(height))
             && self.strips.iter().flatten().all(|strip| strip.sound(self.height))
-            && self.gathering.as_ref().is_none_or(Gathering::sound)
+            && self.gathering.as_ref().is_none_or(|gathering| gathering.sound(self.edition))
             && self.inline.as_ref().is_none_or(Inline::sound)
-            && self.upload.as_ref().is_none_or(|u| u.stored < u.size)
+            && self.upload.as_ref().is_none_or(Upload::sound)
             && self.under_way() <= 1
     }
 
     fn under_way(&self) -> usize {
-        self.gathering.is_some() as usize
-            + self.inline.is_some() as usize
-            + self.upload.is_some() as usize
+        self.gathering.is_some() as usize + self.inline.is_some() as usize + self.upload.is_some() as usize
     }
 
     /// Answer 3 also looks at the thresholds, whether flow is on or off.
@@ -179,11 +210,26 @@ impl State {
 }
 
 impl Gathering {
-    fn sound(&self) -> bool {
+    /// How many bytes a command needs goes by the edition.
+    fn sound(&self, edition: u8) -> bool {
+        let edition = if is(M::GatheringSoundByTheNewer) { NEWER } else { edition };
         match self.bytes.first() {
             None => true,
-            Some(&code) => arguments(code).is_some_and(|needs| self.bytes.len() < 1 + needs),
+            Some(&code) => arguments(code, edition).is_some_and(|needs| self.bytes.len() < 1 + needs),
         }
+    }
+}
+
+impl Upload {
+    fn sound(&self) -> bool {
+        let ends = if is(M::WaitSoundTo2100) {
+            WAIT_ENDS + 1
+        } else if is(M::WaitSoundTo2098) {
+            WAIT_ENDS - 1
+        } else {
+            WAIT_ENDS
+        };
+        self.stored < self.size && ((self.waited as u32) < ends || is(M::WaitUncheckedInRecord))
     }
 }
 
@@ -203,7 +249,13 @@ impl Bar {
 
 impl Strip {
     fn sound(&self, height: u8) -> bool {
-        let height = if is(M::StripSoundToRow63) { 64 } else if is(M::StripSoundToRow127) { 128 } else { height };
+        let height = if is(M::StripSoundToRow63) {
+            64
+        } else if is(M::StripSoundToRow127) {
+            128
+        } else {
+            height
+        };
         strictly_placed(height, self.x1, self.y1, self.x2, self.y2)
     }
 }
@@ -217,7 +269,9 @@ fn strictly_placed(height: u8, x1: u8, y1: u8, x2: u8, y2: u8) -> bool {
 pub enum Lent<'a> {
     WrongLength,
     /// The right length, but bytes that stand for no state; only its height is read.
-    Meaningless { height: u8 },
+    Meaningless {
+        height: u8,
+    },
     State(&'a mut State),
 }
 

@@ -1,12 +1,14 @@
 //! Characters, the current font, and the text place by column and row.
 
+use crate::edition::NUMBER_MOST;
 use crate::font::Font;
 use crate::footprint::Footprint;
 use crate::glass::{Glass, WIDTH};
 use crate::machine::Machine;
 use crate::missing::{lacks, IGNORED};
 use crate::mutants::{is, Mutant as M};
-use crate::state::{Kind, Text};
+use crate::numbers::in_range;
+use crate::state::{Sort, Text};
 
 /// Where a character would go, and whether the glass moves up first.
 pub struct Place {
@@ -17,11 +19,14 @@ pub struct Place {
 
 impl Machine<'_> {
     /// The font of that number: 22 when it is not there, 23 when malformed.
-    fn font_bytes(&self, number: u8) -> Result<Vec<u8>, u8> {
+    fn font_bytes(&self, number: u16) -> Result<Vec<u8>, u8> {
         if number == 1 {
             return Ok(self.font.to_vec());
         }
-        let Some(file) = self.files.find(Kind::Font, number) else {
+        if is(M::CurrentFontHeldToRange) && number > NUMBER_MOST {
+            return Err(19);
+        }
+        let Some(file) = self.file(Sort::Font, number) else {
             return Err(22);
         };
         if Font::open(&file.bytes, self.tallest_font()).is_none() {
@@ -38,10 +43,12 @@ impl Machine<'_> {
         self.state.height
     }
 
-    /// 49.
-    pub fn choose_font(&mut self, number: u8) -> Result<Footprint, u8> {
+    /// 49: 19, 22, 23.
+    pub fn choose_font(&mut self, a: &[u8]) -> Result<Footprint, u8> {
+        let (number, _) = self.number(49, a);
+        in_range(49, number)?;
         if is(M::FontUncheckedWhenChosen) {
-            if number != 1 && self.files.find(Kind::Font, number).is_none() {
+            if number != 1 && self.file(Sort::Font, number).is_none() {
                 return Err(22);
             }
         } else {

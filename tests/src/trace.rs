@@ -1,11 +1,14 @@
 //! Everything that can be seen of a scene: answers, signals, replies, and the end.
 
 use crate::board::Board;
-use crate::checks_start::UNKNOWN;
-use crate::feed::{feed, start};
+use crate::checks_start::{UNKNOWN, UNKNOWN_EDITIONS};
+use crate::edition::EDITIONS;
+use crate::feed::{feed, time};
 use crate::generator::Scene;
 use crate::glass::{glass_bytes, Glass, HEIGHTS};
+use crate::input::{leading_bytes, Input};
 use crate::prng::Prng;
+use crate::start::{start, Choice};
 use crate::state::Lent;
 
 const CALLS_MOST: usize = 20_000;
@@ -17,15 +20,26 @@ pub fn trace(scene: &Scene) -> String {
     let mut out = String::new();
     let mut left = &scene.stream[..];
     for _ in 0..CALLS_MOST {
-        if left.is_empty() {
+        let Some(&next) = left.first() else {
             break;
-        }
-        let piece = &left[..rng.pick(&[0, 1, 2, 5, 20, 100, 500]).min(left.len())];
-        let room = if rng.percent(50) { 2 * piece.len() + 2 } else { rng.below(6) };
-        let fed = board.feed(piece, room);
-        out += &format!("feed {} {} {:?}\n", fed.answer, fed.consumed, fed.replies);
+        };
+        let size = rng.pick(&[0, 1, 2, 5, 20, 100, 500]).min(left.len());
+        let room = if rng.percent(50) { 2 * size + 2 } else { rng.below(6) };
+        let (fed, taken) = match next {
+            Input::Byte(_) => {
+                let fed = board.feed(&leading_bytes(&left[..size]), room);
+                let taken = fed.consumed;
+                (fed, taken)
+            }
+            Input::Time(milliseconds) => {
+                let fed = board.time(milliseconds, room);
+                let taken = (fed.answer == 0) as usize;
+                (fed, taken)
+            }
+        };
+        out += &format!("{next} {} {} {:?}\n", fed.answer, fed.consumed, fed.replies);
         out += &format!("{} {}\n", board.state.refusals, board.state.last_refusal);
-        left = &left[fed.consumed..];
+        left = &left[taken..];
         if fed.answer != 0 && fed.answer != 5 {
             break;
         }
@@ -43,18 +57,20 @@ pub fn trace(scene: &Scene) -> String {
     // bad memory of several sorts at once, and a new start
     let mut glass = Glass::from_bytes(&[1; 5]);
     let fed = feed(&board.font, &mut glass, &mut vec![1; 5], Lent::WrongLength, &[], 0);
-    let height = board.state.height;
-    out += &format!("{} {}\n", fed.answer, board.start(height as u32));
+    let own = Choice::of(board.state.height, board.state.edition);
+    out += &format!("{} {}\n", fed.answer, board.start(own));
     let (mut glass_here, mut bad_store, mut unsound) = (board.glass.clone(), vec![9; 1024], board.state.clone());
     unsound.text.x = 496;
     let fed = feed(&board.font, &mut glass_here, &mut bad_store, Lent::State(&mut unsound), &[45], 2);
     out += &format!("{}\n", fed.answer);
-    out += &format!("{}\n", start(height as u32, &mut glass, &[1; 5], None, None));
+    let timed = time(&board.font, &glass_here, &bad_store, Lent::State(&mut unsound), 2100, 1);
+    out += &format!("{}\n", timed.answer);
+    out += &format!("{}\n", start(own, &mut glass, &[1; 5], None, None));
     out += &other_heights(&board, &mut rng);
     out + &format!("{:?}\n{:?}\n", board.glass.to_bytes(), board.state)
 }
 
-/// A feed with any height in the record and a start with any height, each with a glass of some length.
+/// A feed and a time with any height and edition in the record, and a start with any, each with a glass of some length.
 fn other_heights(board: &Board, rng: &mut Prng) -> String {
     let mut out = String::new();
     for _ in 0..6 {
@@ -62,10 +78,15 @@ fn other_heights(board: &Board, rng: &mut Prng) -> String {
         let height = [rng.pick(&HEIGHTS), rng.byte()][rng.below(2)];
         let bytes = [glass_bytes(height), glass_bytes(rng.pick(&HEIGHTS)), 5][rng.below(3)];
         other.state.height = height;
+        other.state.edition = rng.pick(&[1, 1, 2, 2, 0, 3]);
         other.glass = Glass::from_bytes(&vec![9; bytes]);
-        let fed = other.feed(&[254, 88], 9);
-        out += &format!("{} {:?}", fed.answer, [other.arrive(1).answer, other.take().answer]);
-        let given = [height as u32, rng.pick(&HEIGHTS) as u32, rng.pick(&UNKNOWN)][rng.below(3)];
+        let (fed, timed) = (other.feed(&[254, 88], 9), other.time(9, rng.below(4)));
+        out += &format!("{} {} {:?}", fed.answer, timed.answer, [other.arrive(1).answer, other.take().answer]);
+        let given = Choice {
+            height: [height as u32, rng.pick(&HEIGHTS) as u32, rng.pick(&UNKNOWN)][rng.below(3)],
+            edition: [rng.pick(&EDITIONS) as u32, rng.pick(&EDITIONS) as u32, rng.pick(&UNKNOWN_EDITIONS)]
+                [rng.below(3)],
+        };
         out += &format!("{} {:?} {:?}\n", other.start(given), other.state, other.glass.to_bytes());
     }
     out

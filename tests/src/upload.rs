@@ -1,26 +1,29 @@
 //! Uploads: the reply, the echo, the confirmation.
 
+use crate::edition::low_first;
 use crate::footprint::Footprint;
 use crate::machine::{Machine, Subject};
-use crate::mutants::{is, Mutant as M};
-use crate::state::{Kind, Upload};
+use crate::mutants::{self, is, Mutant as M};
+use crate::state::{Sort, Upload};
 
 impl Machine<'_> {
     /// 36 and 94: 8 with the refusal, 1 when the data may come.
-    pub fn upload_begins(&mut self, kind: Kind, a: &[u8]) -> Result<Footprint, u8> {
+    pub fn upload_begins(&mut self, sort: Sort, a: &[u8]) -> Result<Footprint, u8> {
+        let edition = self.state.edition;
+        let (number, size) = self.number(if sort == Sort::Font { 36 } else { 94 }, a);
         let size = if is(M::UploadSizeHighFirst) {
-            a[1] as usize * 256 + a[2] as usize
+            low_first(&size.iter().rev().copied().collect::<Vec<_>>())
         } else {
-            a[1] as usize + 256 * a[2] as usize
-        };
-        if let Some(refusal) = self.files.upload_refused(kind, a[0], size) {
-            if !is(M::UploadRefusedSilently) {
+            low_first(size)
+        } as usize;
+        if let Some(refusal) = self.files.upload_refused(edition, sort, number, size) {
+            if !is(M::UploadRefusedSilently) && !(is(M::UploadRangeRefusedSilently) && refusal == 19) {
                 self.replies.push(8);
             }
             return Err(refusal);
         }
         self.replies.push(1);
-        self.state.upload = Some(Upload { kind, number: a[0], size: size as u16, stored: 0, echoed: None });
+        self.state.upload = Some(Upload { waited: mutants::wait_at_start(), ..Upload::new(sort, number, size as u16) });
         Ok(Footprint::Nothing)
     }
 
@@ -32,10 +35,14 @@ impl Machine<'_> {
                 self.files.keep(&upload, byte);
             }
             upload.echoed = Some(byte);
+            if !is(M::DataKeepsTheWait) {
+                upload.waited = 0;
+            }
             self.replies.push(byte);
             self.state.upload = Some(upload);
             return (Subject::UploadByte, Ok(Footprint::Nothing));
         };
+        mutants::note_wait(M::WaitKeptAcrossUploads, upload.waited as u32);
         let confirmed = if is(M::UploadAnyNonzeroConfirms) { byte != 0 } else { byte == 1 };
         if !confirmed {
             if is(M::BrokenUploadRepliesEight) {
@@ -55,11 +62,14 @@ impl Machine<'_> {
         self.files.keep(&upload, data);
         upload.stored += 1;
         upload.echoed = None;
+        if !is(M::ConfirmationKeepsTheWait) {
+            upload.waited = 0;
+        }
         if upload.stored < upload.size {
             self.state.upload = Some(upload);
             return (Subject::UploadConfirmed, Ok(Footprint::Nothing));
         }
-        self.files.finish(&upload);
+        self.files.finish(self.state.edition, &upload);
         (Subject::UploadFinished, Ok(Footprint::Nothing))
     }
 }

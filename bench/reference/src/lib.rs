@@ -7,8 +7,8 @@ use std::slice;
 
 /// A board just started on an empty store of this length. It lives as long as the program.
 #[no_mangle]
-pub extern "C" fn reference_start(store_length: usize) -> *mut Board {
-    Box::into_raw(Box::new(Board::fresh(&built_in_font(), LOW, vec![0; store_length])))
+pub extern "C" fn reference_start(edition: u32, store_length: usize) -> *mut Board {
+    Box::into_raw(Box::new(Board::fresh(&built_in_font(), LOW, edition as u8, vec![0; store_length])))
 }
 
 /// Feeds a piece; the answer is the call's, and `replied` counts the bytes written to `replies`.
@@ -25,6 +25,24 @@ pub unsafe extern "C" fn reference_feed(
     replied: *mut usize,
 ) -> u32 {
     let fed = (*board).feed(slice::from_raw_parts(piece, piece_length), replies_length);
+    slice::from_raw_parts_mut(replies, fed.replies.len()).copy_from_slice(&fed.replies);
+    *replied = fed.replies.len();
+    fed.answer as u32
+}
+
+/// Lets time pass; the answer is the call's, and `replied` counts the bytes written to `replies`.
+///
+/// # Safety
+/// `board` comes from `reference_start`, and the length is the number of bytes at its pointer.
+#[no_mangle]
+pub unsafe extern "C" fn reference_time(
+    board: *mut Board,
+    milliseconds: u32,
+    replies: *mut u8,
+    replies_length: usize,
+    replied: *mut usize,
+) -> u32 {
+    let fed = (*board).time(milliseconds, replies_length);
     slice::from_raw_parts_mut(replies, fed.replies.len()).copy_from_slice(&fed.replies);
     *replied = fed.replies.len();
     fed.answer as u32

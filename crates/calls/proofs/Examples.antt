@@ -8,8 +8,9 @@ use lib.ListN.{set, replicate}
 use Rattle.canvas.specs.Sizes.{isHeight}
 use Rattle.directory.specs.Directory.{lengthOf, stepAt, readFrom, entriesFrom, bytesIn, sizesIn, keepRules, zeros, zerosFrom, validOf}
 use Rattle.queue.specs.Record as queue-record
-use Rattle.state.specs.State.{startState}
-use Rattle.state.specs.Soundness.{every, soundPhase, soundText, soundPort, soundBar, soundStrip, soundPanel, soundState}
+use Rattle.state.specs.State.{config, startState}
+use Rattle.state.specs.Editions.{isEdition}
+use Rattle.state.specs.Soundness.{every, soundPhase, soundText, soundPort, soundBar, soundStrip, soundPanel, soundConfig, soundState}
 use Rattle.state.specs.Canonical.{canonicalPhase, canonicalPort, canonicalBar, canonicalStrip, canonicalSerial, canonicalPanel, canonicalState}
 use Rattle.record.specs.Layout.{heightAt, recordSize}
 use Rattle.record.specs.Reading.{manyOf, phaseOf, portOf, panelOf, decodeOf}
@@ -18,11 +19,11 @@ use Rattle.record.specs.Record.{sameBytes, recognised, soundRecord}
 use Rattle.state.specs.Commands.{commandOf}
 use Rattle.rules.specs.Settings.{setSerial}
 use Rattle.rules.specs.Step.{obey, code, argument, alone, byPhase, after, step, replies}
-use Rattle.rules.specs.Calls.{run, said, taken}
+use Rattle.rules.specs.Calls.{bytes, run, said, taken}
 use Rattle.calls.specs.Memory.{Memory, memory, checked}
 use Rattle.calls.specs.Start.{startChecked}
 use Rattle.calls.specs.Line.{bothSound}
-use Rattle.calls.specs.Feed.{feedOf}
+use Rattle.calls.specs.Feed.{feedOf, pieceOf}
 
 -- white framebuffers
 abbrev low : List ℕ
@@ -39,7 +40,7 @@ abbrev queue : List ℕ
 queue = replicate 85 0
 
 abbrev started : ℕ → List ℕ
-started h = encodeOf (startState h)
+started h = encodeOf (startState (config h 1))
 
 -- with another height
 abbrev saying : ℕ → List ℕ
@@ -49,14 +50,14 @@ saying h = set (started 64) heightAt h
 abbrev unsound : List ℕ
 unsound = set (set long heightAt 64) 0 9
 
-pub checks-order : (checked (memory [] [] (replicate 201 64)) ≡ 3) × (checked (memory [] [] long) ≡ 3) × (checked (memory [] [] unsound) ≡ 1)
+pub checks-order : (checked (memory [] [] (replicate 206 64)) ≡ 3) × (checked (memory [] [] long) ≡ 3) × (checked (memory [] [] unsound) ≡ 1)
     × (checked (memory (replicate 1919 0) [] unsound) ≡ 1) × (checked (memory low (replicate 1023 0) unsound) ≡ 2) × (checked (memory low (replicate 1024 0) unsound) ≡ 3)
-unfolding checked recognised isHeight soundRecord every soundState soundPort soundPhase soundText soundPanel soundBar soundStrip canonicalState canonicalPort canonicalPhase canonicalPanel canonicalBar canonicalStrip canonicalSerial sameBytes decodeOf portOf phaseOf panelOf manyOf encodeOf portBytes phaseBytes panelBytes manyBytes
+unfolding checked recognised isHeight soundRecord every soundState soundConfig isEdition soundPort soundPhase soundText soundPanel soundBar soundStrip canonicalState canonicalPort canonicalPhase canonicalPanel canonicalBar canonicalStrip canonicalSerial sameBytes decodeOf portOf phaseOf panelOf manyOf encodeOf portBytes phaseBytes panelBytes manyBytes
 checks-order = (refl, refl, refl, refl, refl, refl)
 
 -- the largest store, and one byte more
 pub store-limits : (checked (memory low (replicate 32768 0) unsound) ≡ 3) × (checked (memory low (replicate 32769 0) unsound) ≡ 2)
-unfolding checked recognised isHeight soundRecord every soundState soundPort soundPhase soundText soundPanel soundBar soundStrip canonicalState canonicalPort canonicalPhase canonicalPanel canonicalBar canonicalStrip canonicalSerial sameBytes decodeOf portOf phaseOf panelOf manyOf encodeOf portBytes phaseBytes panelBytes manyBytes
+unfolding checked recognised isHeight soundRecord every soundState soundConfig isEdition soundPort soundPhase soundText soundPanel soundBar soundStrip canonicalState canonicalPort canonicalPhase canonicalPanel canonicalBar canonicalStrip canonicalSerial sameBytes decodeOf portOf phaseOf panelOf manyOf encodeOf portBytes phaseBytes panelBytes manyBytes
 store-limits = (refl, refl)
 
 -- ---- the height
@@ -69,7 +70,7 @@ heights = (refl, refl, refl, refl)
 
 -- for an arrival and a take too
 pub line-heights : (bothSound (saying 64) queue ≡ true) × (bothSound (saying 0) queue ≡ false) × (bothSound (saying 63) queue ≡ false) × (bothSound (saying 255) queue ≡ false)
-unfolding isHeight soundRecord queue-record.soundRecord queue-record.decodeOf every soundState soundPort soundPhase soundText soundPanel soundBar soundStrip canonicalState canonicalPort canonicalPhase canonicalPanel canonicalBar canonicalStrip canonicalSerial sameBytes decodeOf portOf phaseOf panelOf manyOf encodeOf portBytes phaseBytes panelBytes manyBytes
+unfolding isHeight soundRecord queue-record.soundRecord queue-record.decodeOf every soundState soundConfig isEdition soundPort soundPhase soundText soundPanel soundBar soundStrip canonicalState canonicalPort canonicalPhase canonicalPanel canonicalBar canonicalStrip canonicalSerial sameBytes decodeOf portOf phaseOf panelOf manyOf encodeOf portBytes phaseBytes panelBytes manyBytes
 line-heights = (refl, refl, refl, refl)
 
 -- a record of one height with the framebuffer of the other
@@ -78,18 +79,18 @@ unfolding checked recognised isHeight encodeOf portBytes phaseBytes panelBytes m
 heights-mixed = (refl, refl)
 
 -- at a start: no such height, then a record or a queue of another length, then the framebuffer, the store, the directory
-pub start-answers : (startChecked 63 (memory [] [] []) [] ≡ 3) × (startChecked 0 (memory [] (replicate 1024 0) long) queue ≡ 3)
-    × (startChecked 65 (memory low (replicate 1024 0) long) queue ≡ 3) × (startChecked 255 (memory low (replicate 1024 0) long) queue ≡ 3)
-    × (startChecked 256 (memory low (replicate 1024 0) long) queue ≡ 3) × (startChecked 4294967295 (memory low (replicate 1024 0) long) queue ≡ 3)
-    × (startChecked 64 (memory [] (replicate 1024 0) (replicate 201 0)) queue ≡ 3)
-    × (startChecked 64 (memory [] (replicate 1024 0) long) (replicate 84 0) ≡ 3)
-    × (startChecked 64 (memory tall [] long) queue ≡ 1)
-    × (startChecked 128 (memory low [] long) queue ≡ 1)
-    × (startChecked 128 (memory tall (9 ∷ replicate 1022 0) long) queue ≡ 2)
-    × (startChecked 128 (memory tall (9 ∷ replicate 1023 0) long) queue ≡ 4)
-    × (startChecked 128 (memory tall (replicate 1024 0) long) queue ≡ 0)
-    × (startChecked 64 (memory low (replicate 1024 0) long) queue ≡ 0)
-unfolding startChecked isHeight validOf entriesFrom readFrom stepAt lengthOf bytesIn sizesIn keepRules zeros zerosFrom
+pub start-answers : (startChecked (config 63 1) (memory [] [] []) [] ≡ 3) × (startChecked (config 0 1) (memory [] (replicate 1024 0) long) queue ≡ 3)
+    × (startChecked (config 65 1) (memory low (replicate 1024 0) long) queue ≡ 3) × (startChecked (config 255 1) (memory low (replicate 1024 0) long) queue ≡ 3)
+    × (startChecked (config 256 1) (memory low (replicate 1024 0) long) queue ≡ 3) × (startChecked (config 4294967295 1) (memory low (replicate 1024 0) long) queue ≡ 3)
+    × (startChecked (config 64 1) (memory [] (replicate 1024 0) (replicate 206 0)) queue ≡ 3)
+    × (startChecked (config 64 1) (memory [] (replicate 1024 0) long) (replicate 84 0) ≡ 3)
+    × (startChecked (config 64 1) (memory tall [] long) queue ≡ 1)
+    × (startChecked (config 128 1) (memory low [] long) queue ≡ 1)
+    × (startChecked (config 128 1) (memory tall (9 ∷ replicate 1022 0) long) queue ≡ 2)
+    × (startChecked (config 128 1) (memory tall (9 ∷ replicate 1023 0) long) queue ≡ 4)
+    × (startChecked (config 128 1) (memory tall (replicate 1024 0) long) queue ≡ 0)
+    × (startChecked (config 64 1) (memory low (replicate 1024 0) long) queue ≡ 0)
+unfolding startChecked isHeight isEdition validOf entriesFrom readFrom stepAt lengthOf bytesIn sizesIn keepRules zeros zerosFrom
 start-answers = (refl, refl, refl, refl, refl, refl, refl, refl, refl, refl, refl, refl, refl, refl)
 
 -- ---- a record as the start writes it, and a directory that begins with an unknown kind
@@ -98,15 +99,15 @@ abbrev with-store : List ℕ → Memory
 with-store s = memory low s (started 64)
 
 pub checked-answers : (checked (with-store (9 ∷ replicate 1023 0)) ≡ 4) × (checked (with-store (replicate 1024 0)) ≡ 0) × (checked (memory tall (replicate 1024 0) (started 128)) ≡ 0)
-unfolding checked recognised isHeight soundRecord every soundState soundPort soundPhase soundText soundPanel soundBar soundStrip canonicalState canonicalPort canonicalPhase canonicalPanel canonicalBar canonicalStrip canonicalSerial sameBytes decodeOf portOf phaseOf panelOf manyOf encodeOf portBytes phaseBytes panelBytes manyBytes validOf entriesFrom readFrom stepAt lengthOf bytesIn sizesIn keepRules zeros zerosFrom
+unfolding checked recognised isHeight soundRecord every soundState soundConfig isEdition soundPort soundPhase soundText soundPanel soundBar soundStrip canonicalState canonicalPort canonicalPhase canonicalPanel canonicalBar canonicalStrip canonicalSerial sameBytes decodeOf portOf phaseOf panelOf manyOf encodeOf portBytes phaseBytes panelBytes manyBytes validOf entriesFrom readFrom stepAt lengthOf bytesIn sizesIn keepRules zeros zerosFrom
 checked-answers = (refl, refl, refl)
 
 -- a byte needs two free reply bytes, whether it replies or not; those that a serial number took are free no longer
-pub piece-answers : (feedOf (with-store (replicate 1024 0)) [] 0 .answer ≡ 0)
-    × (feedOf (with-store (replicate 1024 0)) (254 ∷ []) 1 .answer ≡ 5)
-    × (feedOf (with-store (replicate 1024 0)) (254 ∷ []) 2 .answer ≡ 0)
-    × (feedOf (with-store (replicate 1024 0)) (254 ∷ 52 ∷ 7 ∷ 8 ∷ 254 ∷ []) 3 .answer ≡ 5)
-    × (feedOf (with-store (replicate 1024 0)) (254 ∷ 52 ∷ 7 ∷ 8 ∷ 254 ∷ []) 3 .consumed ≡ 4)
-    × (feedOf (with-store (replicate 1024 0)) (254 ∷ 52 ∷ 7 ∷ 8 ∷ 254 ∷ []) 3 .sent ≡ 7 ∷ 8 ∷ [])
-unfolding feedOf run said taken step replies after byPhase alone code argument obey commandOf setSerial checked recognised isHeight soundRecord every soundState soundPort soundPhase soundText soundPanel soundBar soundStrip canonicalState canonicalPort canonicalPhase canonicalPanel canonicalBar canonicalStrip canonicalSerial sameBytes decodeOf portOf phaseOf panelOf manyOf encodeOf portBytes phaseBytes panelBytes manyBytes validOf entriesFrom readFrom stepAt lengthOf bytesIn sizesIn keepRules zeros zerosFrom
+pub piece-answers : (pieceOf (with-store (replicate 1024 0)) [] 0 .answer ≡ 0)
+    × (pieceOf (with-store (replicate 1024 0)) (254 ∷ []) 1 .answer ≡ 5)
+    × (pieceOf (with-store (replicate 1024 0)) (254 ∷ []) 2 .answer ≡ 0)
+    × (pieceOf (with-store (replicate 1024 0)) (254 ∷ 52 ∷ 7 ∷ 8 ∷ 254 ∷ []) 3 .answer ≡ 5)
+    × (pieceOf (with-store (replicate 1024 0)) (254 ∷ 52 ∷ 7 ∷ 8 ∷ 254 ∷ []) 3 .consumed ≡ 4)
+    × (pieceOf (with-store (replicate 1024 0)) (254 ∷ 52 ∷ 7 ∷ 8 ∷ 254 ∷ []) 3 .sent ≡ 7 ∷ 8 ∷ [])
+unfolding feedOf bytes run said taken step replies after byPhase alone code argument obey commandOf setSerial checked recognised isHeight soundRecord every soundState soundConfig isEdition soundPort soundPhase soundText soundPanel soundBar soundStrip canonicalState canonicalPort canonicalPhase canonicalPanel canonicalBar canonicalStrip canonicalSerial sameBytes decodeOf portOf phaseOf panelOf manyOf encodeOf portBytes phaseBytes panelBytes manyBytes validOf entriesFrom readFrom stepAt lengthOf bytesIn sizesIn keepRules zeros zerosFrom
 piece-answers = (refl, refl, refl, refl, refl, refl)

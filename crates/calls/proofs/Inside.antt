@@ -1,4 +1,4 @@
--- Every bar's rectangle lies on the framebuffer, after every byte: one that is set up, since the state is sound; one that is not, since it is blank.
+-- Every bar's rectangle lies on the framebuffer, after every input: one that is set up, since the state is sound; one that is not, since it is blank.
 -- Assumes nothing.
 use mathlib.Core.Path.{_≡_, refl}
 use mathlib.Core.Bool.{Bool, true, false, _&&_}
@@ -21,14 +21,15 @@ use Rattle.state.specs.Soundness.{every, soundCorners, soundSetUp, soundBar}
 use Rattle.state.specs.Canonical.{blank, canonicalBar}
 use Rattle.state.proofs.Every.{every-at}
 use Rattle.rules.specs.World.{World, height, panel}
-use Rattle.rules.specs.Step.{step}
+use Rattle.rules.specs.Step.{Input, step}
 use Rattle.rules.specs.Calls.{run}
-use Rattle.rules.proofs.Good.{parts}
+use Rattle.rules.specs.Sound.{ComesAll}
+use Rattle.rules.proofs.Good.{parts, height-known}
+use Rattle.rules.proofs.GoodByte.{take-comes}
 use Rattle.calls.specs.Memory.{Kept}
 use Rattle.calls.specs.Feed.{feedOf}
 use Rattle.calls.specs.List.{Board, Call, feeds, arrives, takes, consumedAll}
-use Rattle.calls.specs.Bytes.{AllBytes, BytesInAll}
-use Rattle.calls.proofs.Lists.{take-bytes}
+use Rattle.calls.specs.Bytes.{BytesInAll}
 
 -- the last corner is on a framebuffer of h rows
 record Cornered (h : ℕ) (b : Bar) : Type 0 where
@@ -60,24 +61,24 @@ bars-inside w k i x y e =
     let n = height w in
     let s = every-at (soundBar n) (panel w .bars) i noBar refl (b .sound) in
     let c = every-at canonicalBar (panel w .bars) i noBar refl (b .canonical) in
-    let q = cornered n (barAt (panel w) i) (barAt (panel w) i .on) refl (height-some n (parts (k .good) .height .known)) s c in
+    let q = cornered n (barAt (panel w) i) (barAt (panel w) i .on) refl (height-some n (height-known (parts (k .good)))) s c in
     rw (k .framebuffer) (rectangle-fits n _ _ _ _ x y (q .x2) (q .y2) e)
 
 -- ---- along a list of calls
 
-append-bytes : (l m : List ℕ) → AllBytes l → AllBytes m → AllBytes (l ++ m)
-append-bytes [] m h k = k
-append-bytes (b ∷ l) m h k = (h .0, append-bytes l m (h .1) k)
+append-comes : (l m : List Input) → ComesAll l → ComesAll m → ComesAll (l ++ m)
+append-comes [] m h k = k
+append-comes (i ∷ l) m h k = (h .0, append-comes l m (h .1) k)
 
-pub consumed-bytes : (b : Board) (cs : List Call) → BytesInAll cs → AllBytes (consumedAll b cs)
+pub consumed-comes : (b : Board) (cs : List Call) → BytesInAll cs → ComesAll (consumedAll b cs)
 unfolding consumedAll
-consumed-bytes b [] h = tt
-consumed-bytes b (feeds p room ∷ cs) h =
-    append-bytes (take (feedOf (b .memory) p room .consumed) p) _ (take-bytes (feedOf (b .memory) p room .consumed) p (h .0)) (consumed-bytes _ cs (h .1))
-consumed-bytes b (arrives x ∷ cs) h = consumed-bytes _ cs (h .1)
-consumed-bytes b (takes ∷ cs) h = consumed-bytes _ cs (h .1)
+consumed-comes b [] h = tt
+consumed-comes b (feeds p room ∷ cs) h =
+    append-comes (take (feedOf (b .memory) p room .consumed) p) _ (take-comes (feedOf (b .memory) p room .consumed) p (h .0)) (consumed-comes _ cs (h .1))
+consumed-comes b (arrives x ∷ cs) h = consumed-comes _ cs (h .1)
+consumed-comes b (takes ∷ cs) h = consumed-comes _ cs (h .1)
 
-pub run-along : (w : World) (l : List ℕ) → along step w l ≡ run w l
+pub run-along : (w : World) (l : List Input) → along step w l ≡ run w l
 unfolding along run
 run-along w [] = refl
-run-along w (b ∷ l) = run-along (step w b) l
+run-along w (i ∷ l) = run-along (step w i) l

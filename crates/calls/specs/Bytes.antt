@@ -1,17 +1,14 @@
 -- What is handed in and lent are bytes.
 -- Assumes nothing.
 use mathlib.Core.List.{List, [], _∷_}
-use Prim.Native.Nat.{ℕ, _<_}
+use Prim.Native.Nat.{_<_}
 use Rattle.queue.specs.Record.{Bytes}
+use Rattle.rules.specs.Sound.{ComesAll}
 use Rattle.calls.specs.Memory.{Memory}
 use Rattle.calls.specs.List.{Call, feeds, arrives, takes}
 
-abbrev pub AllBytes : List ℕ → Type 0
-AllBytes [] = Unit {0}
-AllBytes (b ∷ l) = (b < 256) × AllBytes l
-
 abbrev pub BytesIn : Call → Type 0
-BytesIn (feeds p room) = AllBytes p
+BytesIn (feeds l room) = ComesAll l
 BytesIn (arrives x) = x < 256
 BytesIn takes = Unit {0}
 

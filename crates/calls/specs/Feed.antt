@@ -1,12 +1,13 @@
--- Feeding a piece.
+-- What comes in: the bytes of a piece, or time that has passed.
 -- Assumes nothing.
-use mathlib.Core.List.{List, []}
+use mathlib.Core.List.{List, [], _∷_}
 use mathlib.Core.Bool.{cond}
 use Prim.Native.Nat.{ℕ}
 use lib.Dec.{eqb}
 use lib.ListN.{length, take}
 use Rattle.rules.specs.World.{World}
-use Rattle.rules.specs.Calls.{run, said, taken}
+use Rattle.rules.specs.Step.{Input, time}
+use Rattle.rules.specs.Calls.{bytes, run, said, taken}
 use Rattle.calls.specs.Memory.{Memory, checked, loaded, saved}
 
 pub record Fed : Type 0 where
@@ -18,10 +19,18 @@ pub record Fed : Type 0 where
 abbrev pub fed : Memory → ℕ → ℕ → List ℕ → Fed
 fed m a n l = record { left = m; answer = a; consumed = n; sent = l }
 
--- n bytes of the piece are obeyed: 0 where they are all, 5 where a byte is left and fewer than two reply bytes are free
-abbrev pub fedBytes : World → List ℕ → ℕ → Fed
-fedBytes w p n = fed (saved (run w (take n p))) (cond (eqb n (length p)) 0 5) n (said w (take n p))
+-- n of the inputs are obeyed: 0 where they are all, 5 where one is left and fewer than two reply bytes are free
+abbrev pub fedInputs : World → List Input → ℕ → Fed
+fedInputs w l n = fed (saved (run w (take n l))) (cond (eqb n (length l)) 0 5) n (said w (take n l))
 
--- A PIECE WITH THIS MUCH REPLY ROOM: refused with 1 to 4 it changes nothing, consumes nothing and sends nothing
-unfoldable pub feedOf : Memory → List ℕ → ℕ → Fed
-feedOf m p room = cond (eqb (checked m) 0) (fedBytes (loaded m) p (taken (loaded m) room p)) (fed m (checked m) 0 [])
+-- INPUTS WITH THIS MUCH REPLY ROOM: refused with 1 to 4 they change nothing, none is consumed and nothing is sent
+unfoldable pub feedOf : Memory → List Input → ℕ → Fed
+feedOf m l room = cond (eqb (checked m) 0) (fedInputs (loaded m) l (taken (loaded m) room l)) (fed m (checked m) 0 [])
+
+-- A PIECE OF THE STREAM
+abbrev pub pieceOf : Memory → List ℕ → ℕ → Fed
+pieceOf m p room = feedOf m (bytes p) room
+
+-- MILLISECONDS THAT HAVE PASSED
+abbrev pub timeOf : Memory → ℕ → ℕ → Fed
+timeOf m ms room = feedOf m (time ms ∷ []) room

@@ -3,6 +3,7 @@
 use mathlib.Core.List.{List, [], _∷_, _++_}
 use Prim.Native.Nat.{ℕ}
 use lib.ListN.{take}
+use Rattle.rules.specs.Step.{Input}
 use Rattle.rules.specs.Chunks.{Chunk}
 use Rattle.calls.specs.Memory.{Memory}
 use Rattle.calls.specs.Feed.{feedOf}
@@ -16,9 +17,9 @@ pub record Board : Type 0 where
 abbrev pub board : Memory → List ℕ → Board
 board m q = record { memory = m; queue = q }
 
--- a piece with its reply room, a byte that arrives, or a byte taken
+-- inputs with their reply room, the bytes of a piece or time that has passed; a byte that arrives; or a byte taken
 pub data Call : Type 0 where
-  feeds : List ℕ → ℕ → Call
+  feeds : List Input → ℕ → Call
   arrives : ℕ → Call
   takes : Call
 
@@ -27,8 +28,8 @@ afterCall b (feeds p room) = board (feedOf (b .memory) p room .left) (b .queue)
 afterCall b (arrives x) = board (b .memory) (arriveCall (b .memory .state) (b .queue) x .queue)
 afterCall b takes = board (b .memory) (takeCall (b .memory .state) (b .queue) .queue)
 
--- the bytes that the answer counts as consumed
-abbrev pub consumedBy : Board → Call → List ℕ
+-- the inputs that the answer counts as consumed
+abbrev pub consumedBy : Board → Call → List Input
 consumedBy b (feeds p room) = take (feedOf (b .memory) p room .consumed) p
 consumedBy b (arrives x) = []
 consumedBy b takes = []
@@ -42,7 +43,7 @@ unfoldable pub afterAll : Board → List Call → Board
 afterAll b [] = b
 afterAll b (c ∷ cs) = afterAll (afterCall b c) cs
 
-unfoldable pub consumedAll : Board → List Call → List ℕ
+unfoldable pub consumedAll : Board → List Call → List Input
 consumedAll b [] = []
 consumedAll b (c ∷ cs) = consumedBy b c ++ consumedAll (afterCall b c) cs
 
@@ -53,6 +54,6 @@ sentAll b (c ∷ cs) = sentBy b c ++ sentAll (afterCall b c) cs
 -- the pieces among them, which a stream was cut into
 unfoldable pub chunksIn : List Call → List Chunk
 chunksIn [] = []
-chunksIn (feeds p room ∷ cs) = record { bytes = p; room = room } ∷ chunksIn cs
+chunksIn (feeds p room ∷ cs) = record { inputs = p; room = room } ∷ chunksIn cs
 chunksIn (arrives x ∷ cs) = chunksIn cs
 chunksIn (takes ∷ cs) = chunksIn cs

@@ -4,18 +4,18 @@ use mathlib.Core.Path.{_≡_}
 use mathlib.Core.List.{List}
 use mathlib.Core.Bool.{Bool, true, false, cond, not, _&&_, _||_}
 use Prim.Native.Nat.{ℕ}
-use lib.Dec.{eqb, leb}
+use lib.Dec.{eqb, leb, ltb}
 use lib.ListN.{length}
 use Rattle.canvas.specs.Sizes.{lengthFor}
 use Rattle.directory.specs.Directory.{validOf}
 use Rattle.state.specs.declared.Phase.{Phase}
 use Rattle.state.specs.declared.Phase.the-variants.{Idle, Prefix, Gathering, Inline, Upload}
-use Rattle.record.specs.Reading.{heightIn, decodeOf}
+use Rattle.record.specs.Reading.{heightIn, editionIn, decodeOf}
 use Rattle.record.specs.Writing.{encodeOf}
 use Rattle.record.specs.Record.{recognised, soundRecord}
 use Rattle.rules.specs.World.{World, world, height}
-use Rattle.rules.specs.Files.{inUse, lacksSpace}
-use Rattle.rules.specs.Sound.{Good}
+use Rattle.rules.specs.Files.{inUse, kindOf, lacksSpace}
+use Rattle.rules.specs.Sound.{highest, Good}
 
 -- as long as h rows are
 abbrev pub framebufferFits : ℕ → List ℕ → Bool
@@ -33,13 +33,13 @@ pub record Memory : Type 0 where
 abbrev pub memory : List ℕ → List ℕ → List ℕ → Memory
 memory g s r = record { framebuffer = g; store = s; state = r }
 
--- an upload under way would now get 25 or 24
-abbrev pub uploadRefused : List ℕ → Phase → Bool
-uploadRefused s Idle = false
-uploadRefused s Prefix = false
-uploadRefused s (Gathering code got) = false
-uploadRefused s (Inline x1 y1 x2 y2 came) = false
-uploadRefused s (Upload kind number size stored waiting byte) = inUse s kind number || lacksSpace s size
+-- an upload under way has a number that edition e cannot name or that would now get 19, or it would get 25 or 24
+abbrev pub uploadRefused : ℕ → List ℕ → Phase → Bool
+uploadRefused e s Idle = false
+uploadRefused e s Prefix = false
+uploadRefused e s (Gathering code got) = false
+uploadRefused e s (Inline x1 y1 x2 y2 came) = false
+uploadRefused e s (Upload sort number size stored waiting held waited) = ltb (highest e) number || inUse s sort number || lacksSpace s (kindOf e sort) size
 
 -- THE CHECKS OF A PIECE: the answer 1 to 4 that it is refused with, or 0. The record says how long the framebuffer has to be, so that it is recognised first
 unfoldable pub checked : Memory → ℕ
@@ -48,7 +48,7 @@ checked m =
     (cond (not (framebufferFits (heightIn (m .state)) (m .framebuffer))) 1
     (cond (not (storeFits (m .store))) 2
     (cond (not (soundRecord (m .state))) 3
-    (cond (not (validOf (m .store)) || uploadRefused (m .store) (decodeOf (m .state) .port .line .phase)) 4 0))))
+    (cond (not (validOf (m .store)) || uploadRefused (editionIn (m .state)) (m .store) (decodeOf (m .state) .port .line .phase)) 4 0))))
 
 -- memory read, and a world written back
 abbrev pub loaded : Memory → World

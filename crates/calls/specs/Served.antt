@@ -10,7 +10,7 @@ use Rattle.pixels.specs.Framebuffer.{On}
 use Rattle.bar_graph.specs.Bars.{rectangleOf}
 use Rattle.bar_ledger.specs.Claim.{Agrees}
 use Rattle.queue.specs.Record as queue-record
-use Rattle.record.specs.Reading.{heightIn, decodeOf}
+use Rattle.record.specs.Reading.{configIn, decodeOf}
 use Rattle.state.specs.State.{barAt}
 use Rattle.rules.specs.World.{port, panel}
 use Rattle.rules.specs.Step.{step}
@@ -23,11 +23,11 @@ use Rattle.calls.specs.List.{Board, Call, afterAll, consumedAll, sentAll
 
 -- WHAT HOLDS AFTER A LIST OF CALLS
 pub record Served (b : Board) (cs : List Call) : Type 0 where
-  -- the memory is what the bytes consumed leave, and what was sent is what they send: one stream, however it was cut
+  -- the memory is what the inputs consumed leave, and what was sent is what they send: one stream, however it was cut
   pub stream : afterAll b cs .memory ≡ saved (run (loaded (b .memory)) (consumedAll b cs))
   pub reads : loaded (afterAll b cs .memory) ≡ run (loaded (b .memory)) (consumedAll b cs)
   pub sent : sentAll b cs ≡ said (loaded (b .memory)) (consumedAll b cs)
-  -- demand 3, after them all and after every byte
+  -- demand 3, after them all and after every input
   pub bars : Agrees view step event (loaded (b .memory)) (consumedAll b cs)
   -- every bar's rectangle lies on the framebuffer
   pub inside : (n i x y : ℕ) → rectangleOf (barAt (panel (run (loaded (b .memory)) (take n (consumedAll b cs)))) i .bar) x y ≡ true
@@ -37,8 +37,8 @@ pub record Served (b : Board) (cs : List Call) : Type 0 where
   pub last : decodeOf (afterAll b cs .memory .state) .port .refusals .last ≡ lastOf (loaded (b .memory)) (consumedAll b cs) (port (loaded (b .memory)) .refusals .last)
   -- no refusal has number 28, so that it is the last one only where it was before
   pub never-28 : (port (loaded (b .memory)) .refusals .last ≡ noGlyph → ⊥) → decodeOf (afterAll b cs .memory .state) .port .refusals .last ≡ noGlyph → ⊥
-  -- the height stays
-  pub height : heightIn (afterAll b cs .memory .state) ≡ heightIn (b .memory .state)
+  -- height and edition stay
+  pub config : configIn (afterAll b cs .memory .state) ≡ configIn (b .memory .state)
   -- the next call passes the checks again: a piece, and an arrival or a take
   pub again : checked (afterAll b cs .memory) ≡ 0
   pub line-again : queue-record.soundRecord (b .queue) ≡ true → bothSound (afterAll b cs .memory .state) (afterAll b cs .queue) ≡ true

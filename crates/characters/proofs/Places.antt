@@ -140,16 +140,16 @@ pub moved-none : (c : Place) (g h : List ℕ) → c ≡ Nowhere → h ≡ movedF
 unfolding movedFor
 moved-none c g h e f = f ∙ rw e
 
-module _ (g s : List ℕ) (st : State) (i : Ink) (v f : ℕ) (c : Place) (found : c ≡ placeOf (fitted (st .height) v f (wrapped (st .port .text) v f))) where
+module _ (g s : List ℕ) (st : State) (i : Ink) (v f : ℕ) (c : Place) (found : c ≡ placeOf (fitted (st .config .height) v f (wrapped (st .port .text) v f))) where
   pub drawn-29 : c ≡ Nowhere → drawnOn (world g s st) (drawn i v f) ≡ refused 29 []
   unfolding drawnOn drawnAt
-  drawn-29 e = rw (nowhere-is (fitted (st .height) v f (wrapped (st .port .text) v f)) (sym found ∙ e))
+  drawn-29 e = rw (nowhere-is (fitted (st .config .height) v f (wrapped (st .port .text) v f)) (sym found ∙ e))
 
   pub drawn-done : (x y u : ℕ) (g' g'' : List ℕ) → c ≡ At x y u → g' ≡ movedFor c g → g'' ≡ put (box x (x + v) y (y + f)) (inked i x y v) g'
       → drawnOn (world g s st) (drawn i v f) ≡ quietly (putText (world g'' s st) (atPoint (st .port .text) (x + v + st .port .text .«char_space») y))
   unfolding drawnOn drawnAt
   drawn-done x y u g' g'' e up paint =
-      rw (at-is (fitted (st .height) v f (wrapped (st .port .text) v f)) x y u (sym found ∙ e), paint, moved-by c x y u g g' e up)
+      rw (at-is (fitted (st .config .height) v f (wrapped (st .port .text) v f)) x y u (sym found ∙ e), paint, moved-by c x y u g g' e up)
 
 -- all of a box black
 pub box-filled : (x y v f a d : ℕ) (g h : List ℕ) → a ≡ v → d ≡ f → h ≡ fill (box x (x + a) y (y + d)) true g → h ≡ put (box x (x + v) y (y + f)) (inked solid x y v) g
@@ -246,10 +246,10 @@ module _ (w : World) (b v f : ℕ) (t : Bool) (found : t ≡ isIgnored b) where
 -- ---- of the current font
 
 module _ (g s : List ℕ) (st : State) (c : ℕ) where
-  pub character-shut : (k : ℕ) → openFont (st .height) s (st .port .text .font) ≡ shut k → character (world g s st) c ≡ refused k []
+  pub character-shut : (k : ℕ) → openFont (st .config .height) s (st .port .text .font) ≡ shut k → character (world g s st) c ≡ refused k []
   unfolding character characterIn
   character-shut k e = rw e
 
-  pub character-opened : (l : List ℕ) → openFont (st .height) s (st .port .text .font) ≡ opened l → character (world g s st) c ≡ characterIn (world g s st) c (opened l)
+  pub character-opened : (l : List ℕ) → openFont (st .config .height) s (st .port .text .font) ≡ opened l → character (world g s st) c ≡ characterIn (world g s st) c (opened l)
   unfolding character
   character-opened l e = rw e

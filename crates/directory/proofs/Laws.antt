@@ -2,36 +2,15 @@
 -- Assumes nothing.
 use mathlib.Core.Path.{_≡_, refl, sym, ap, _∙_}
 use mathlib.Core.List.{List, [], _∷_}
-use mathlib.Core.Bool.{Bool, true, false, cond}
-use Prim.Native.Nat.{ℕ, zero, suc, _+_, _-_, _≤_, _<_}
+use mathlib.Core.Bool.{Bool, true, false, cond, and-true, and-false}
+use Prim.Native.Nat.{ℕ, zero, suc, _+_, _-_, _*_, _≤_, _<_}
 use native.Mathlib.Omega.{arith}
 use lib.ListN.{length, getD, List·getD-eq-default}
-use lib.Dec.{leb, eqb, lit≤}
+use lib.Dec.{leb, eqb}
 use borrow.Author.Tests.{eq-eqb, ne-eqb, le-leb, lt-leb, leb-true, eqb-true, eqb-false}
 use Rattle.directory.specs.declared.Entry.{Entry}
-use Rattle.directory.specs.Directory.{lengthOf, stepAt, entryAt, readFrom, entriesFrom}
-
-pub length-font : (k : ℕ) → k ≡ 1 → 4 ≡ lengthOf k
-unfolding lengthOf
-length-font k h = rw h
-
-pub length-bitmap : (k : ℕ) → k ≡ 2 → 4 ≡ lengthOf k
-unfolding lengthOf
-length-bitmap k h = rw h
-
-pub length-none : (k : ℕ) → (k ≡ 1 → ⊥) → (k ≡ 2 → ⊥) → 0 ≡ lengthOf k
-unfolding lengthOf
-length-none k h i = simp (ne-eqb _ _ h, ne-eqb _ _ i)
-
-least-of : (a b : Bool) → (cond {A = ℕ} a 4 (cond b 4 0) ≡ 0 → ⊥) → 4 ≤ cond a 4 (cond b 4 0)
-least-of true b h = lit≤ tt
-least-of false true h = lit≤ tt
-least-of false false h = absurd (h refl)
-
--- every record has at least the four bytes of kind, number and size
-pub length-least : (k : ℕ) → (lengthOf k ≡ 0 → ⊥) → 4 ≤ lengthOf k
-unfolding lengthOf
-length-least k h = least-of (eqb k 1) (eqb k 2) h
+use Rattle.directory.specs.Directory.{isNewer, lengthOf, sortOf, stepAt, pairAt, entryAt, readFrom, entriesFrom, isFile}
+use Rattle.directory.proofs.RecordKinds.{length-least}
 
 pub step-in : (s : List ℕ) (p n : ℕ) → n ≡ lengthOf (getD s p 0) → p + n ≤ 256 → n ≡ stepAt s p
 unfolding stepAt
@@ -109,12 +88,13 @@ unfolding entriesFrom
 from-more p s h = read-more (256 - p) p s h (omega arith)
 
 -- what a walk knows where the record's length n is not 0
-pub record Stands (p n : ℕ) : Type 0 where
+pub record Stands (s : List ℕ) (p n : ℕ) : Type 0 where
+  pub same : n ≡ lengthOf (getD s p 0)
   pub least : 4 ≤ n
   pub fits : p + n ≤ 256
 
-pub stands : (s : List ℕ) (p n : ℕ) → n ≡ stepAt s p → (n ≡ 0 → ⊥) → Stands p n
-stands s p n e h = let w = whole s p (rw e at h) in record { least = rw e (w .least); fits = rw e (w .fits) }
+pub stands : (s : List ℕ) (p n : ℕ) → n ≡ stepAt s p → (n ≡ 0 → ⊥) → Stands s p n
+stands s p n e h = let w = whole s p (rw e at h) in record { same = e ∙ w .same; least = rw e (w .least); fits = rw e (w .fits) }
 
 pub none : (s : List ℕ) (p n : ℕ) → n ≡ stepAt s p → n ≡ 0 → entriesFrom p s ≡ []
 none s p n e h = from-none p s (sym e ∙ h)
@@ -122,13 +102,16 @@ none s p n e h = from-none p s (sym e ∙ h)
 pub more : (s : List ℕ) (p n : ℕ) (d : Entry) → n ≡ stepAt s p → (n ≡ 0 → ⊥) → d ≡ entryAt s p → entriesFrom p s ≡ d ∷ entriesFrom (p + n) s
 more s p n d e h f = rw (e, f) (from-more p s (rw e at h))
 
-pub kind-length : (s : List ℕ) (p n : ℕ) (d : Entry) → n ≡ stepAt s p → (n ≡ 0 → ⊥) → d ≡ entryAt s p → lengthOf (d .kind) ≡ n
-unfolding entryAt
-kind-length s p n d e h f = rw (f, e) (sym (whole s p (rw e at h) .same))
-
 pub by-cond : {A : Type 0} (P : A → Type 0) (t : Bool) (x y : A) → (t ≡ true → P x) → (t ≡ false → P y) → P (cond t x y)
 by-cond P true x y f g = f refl
 by-cond P false x y f g = g refl
+
+pub entry-kind : (s : List ℕ) (p : ℕ) → entryAt s p .kind ≡ getD s p 0
+unfolding entryAt
+entry-kind s p = by-cond (λ (e : Entry). e .kind ≡ getD s p 0) (isNewer (getD s p 0)) _ _ (λ _. refl) (λ _. refl)
+
+pub kind-length : (s : List ℕ) (p n : ℕ) (d : Entry) → n ≡ stepAt s p → (n ≡ 0 → ⊥) → d ≡ entryAt s p → lengthOf (d .kind) ≡ n
+kind-length s p n d e h f = rw (f, entry-kind s p) (sym (stands s p n e h .same))
 
 -- induction along the records
 read-ind : (s : List ℕ) (P : ℕ → List Entry → Type 0) → ((p : ℕ) → stepAt s p ≡ 0 → P p [])
@@ -150,3 +133,44 @@ entries-ind s P f g p = read-ind s P f g (256 - p) p (omega arith)
 -- a byte behind the end reads as 0
 pub behind : (s : List ℕ) (p : ℕ) → length s ≤ p → 0 ≡ getD s p 0
 behind s p h = sym (List·getD-eq-default s 0 {n = p} h)
+
+-- ---- an entry that is read
+
+-- the entry of seven bytes, of which one of the older edition takes four
+abbrev pub entryOf : ℕ → ℕ → ℕ → ℕ → ℕ → ℕ → ℕ → Entry
+entryOf a b c d e f g =
+    cond (isNewer a) (record { kind = a; number = b + 256 * c; size = d + 256 * e + 65536 * (f + 256 * g) })
+    (record { kind = a; number = b; size = c + 256 * d })
+
+pub entry-bytes : (s : List ℕ) (p : ℕ)
+    → entryAt s p ≡ entryOf (getD s p 0) (getD s (p + 1) 0) (getD s (p + 2) 0) (getD s (p + 3) 0) (getD s (p + 4) 0) (getD s (p + 5) 0) (getD s (p + 6) 0)
+unfolding entryAt
+entry-bytes s p =
+    let a : p + 1 + 1 ≡ p + 2 = omega arith in
+    let b : p + 2 + 1 ≡ p + 3 = omega arith in
+    let c : p + 3 + 1 ≡ p + 4 = omega arith in
+    let d : p + 3 + 2 ≡ p + 5 = omega arith in
+    let e : p + 5 + 1 ≡ p + 6 = omega arith in
+    rw (a, b, c, d, e)
+
+pub older-read : (s : List ℕ) (p z : ℕ) → isNewer (getD s p 0) ≡ false → z ≡ pairAt s (p + 2) → record { kind = getD s p 0; number = getD s (p + 1) 0; size = z } ≡ entryAt s p
+unfolding entryAt
+older-read s p z h e = rw (h, e)
+
+pub newer-read : (s : List ℕ) (p n l u : ℕ) → isNewer (getD s p 0) ≡ true → n ≡ pairAt s (p + 1) → l ≡ pairAt s (p + 3) → u ≡ pairAt s (p + 5)
+    → record { kind = getD s p 0; number = n; size = l + 65536 * u } ≡ entryAt s p
+unfolding entryAt
+newer-read s p n l u h e f g = let d : p + 3 + 2 ≡ p + 5 = omega arith in rw (h, e, f, g, d)
+
+-- the same bytes are the same entry
+pub copied : (s : List ℕ) (p a b c d e f g : ℕ) → a ≡ getD s p 0 → b ≡ getD s (p + 1) 0 → c ≡ getD s (p + 2) 0 → d ≡ getD s (p + 3) 0 → e ≡ getD s (p + 4) 0 → f ≡ getD s (p + 5) 0
+    → g ≡ getD s (p + 6) 0 → entryAt (a ∷ b ∷ c ∷ d ∷ e ∷ f ∷ g ∷ []) 0 ≡ entryAt s p
+copied s p a b c d e f g ha hb hc hd he hf hg = entry-bytes (a ∷ b ∷ c ∷ d ∷ e ∷ f ∷ g ∷ []) 0 ∙ rw (ha, hb, hc, hd, he, hf, hg) (sym (entry-bytes s p))
+
+-- ---- a file that is asked for
+
+pub file-other : (e : Entry) (k n : ℕ) → (e .number ≡ n → ⊥) → false ≡ isFile e k n
+file-other e k n h = rw (ne-eqb (e .number) n h) (sym (and-false (eqb (sortOf (e .kind)) k)))
+
+pub file-number : (e : Entry) (j k n : ℕ) → j ≡ sortOf (e .kind) → e .number ≡ n → eqb j k ≡ isFile e k n
+file-number e j k n f h = rw (eq-eqb (e .number) n h, ← f) (sym (and-true (eqb j k)))

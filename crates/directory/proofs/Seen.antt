@@ -1,9 +1,9 @@
--- Numbers seen: a table with a bit for each kind and number, in place of a look at every later record.
+-- Files seen: a table with a bit for each sort and number, in place of a look at every later record.
 -- Assumes nothing.
 use mathlib.Core.Path.{_≡_, refl, sym, _∙_}
 use mathlib.Core.List.{List, [], _∷_}
-use mathlib.Core.Bool.{Bool, true, false, _&&_, _||_, not, or-false, and-false}
-use Prim.Native.Nat.{ℕ, zero, suc, _+_, _-_, _*_, _/_, _%_, _^_, _≤_, _<_}
+use mathlib.Core.Bool.{Bool, true, false, cond, _&&_, _||_, not, or-false, and-false}
+use Prim.Native.Nat.{ℕ, zero, suc, _+_, _*_, _/_, _%_, _^_, _≤_, _<_}
 use native.Mathlib.Omega.{arith}
 use native.Mathlib.Decide.{ℕ-discrete}
 use lib.Bits.{bitOr}
@@ -14,8 +14,8 @@ use borrow.Author.Tests.{eq-eqb, ne-eqb}
 use Rattle.pixels.specs.Framebuffer.{bitOf}
 use Rattle.pixels.proofs.Bits.{bit-zero, bit-or, bit-one}
 use Rattle.directory.specs.declared.Entry.{Entry}
-use Rattle.directory.specs.Directory.{lengthOf, stepAt, entryAt, entriesFrom, isFile, hasFile}
-use Rattle.directory.proofs.Laws.{length-none, whole, entries-ind}
+use Rattle.directory.specs.Directory.{lengthOf, sortOf, stepAt, entryAt, entriesFrom, isFile, hasFile}
+use Rattle.directory.proofs.Laws.{whole, entry-kind, entries-ind}
 
 -- ---- the table
 
@@ -42,41 +42,44 @@ marked-mark t i j l =
 
 -- ---- a file's place in it
 
--- numbers of a kind, and bytes that have a bit for each number of two kinds
-abbrev numbers : ℕ
-numbers = 256
-
+-- bytes that have a bit for each of 1,024 numbers of two sorts
 abbrev pub tableSize : ℕ
-tableSize = 64
+tableSize = 256
 
+-- sort k is 1 or 2
 abbrev pub slot : ℕ → ℕ → ℕ
-slot k n = numbers * (k - 1) + n
+slot k n = 2 * n + k % 2
 
-pub record Numbered (k n : ℕ) : Type 0 where
+pub record Sort (k : ℕ) : Type 0 where
   pub least : 1 ≤ k
   pub most : k ≤ 2
-  pub below : n < numbers
 
 -- no two files share a bit
-slot-same : (k n j m : ℕ) → Numbered k n → Numbered j m → eqb (slot k n) (slot j m) ≡ (eqb k j && eqb n m)
+slot-same : (k n j m : ℕ) → Sort k → Sort j → eqb (slot k n) (slot j m) ≡ (eqb k j && eqb n m)
 slot-same k n j m a b =
     elim (ℕ-discrete k j) [
       | yes e ↦ elim (ℕ-discrete n m) [
         | yes d ↦ rw (e, d) (eq-eqb (slot j m) (slot j m) refl ∙ rw (eq-eqb j j refl, eq-eqb m m refl))
         | no d ↦ ne-eqb (slot k n) (slot j m) (omega arith) ∙ rw (eq-eqb k j e, ne-eqb n m d)
       ]
-      | no e ↦ ne-eqb (slot k n) (slot j m) (omega (arith, a .least, a .most, a .below, b .least, b .most, b .below)) ∙ rw (ne-eqb k j e)
+      | no e ↦ ne-eqb (slot k n) (slot j m) (omega (arith, a .least, a .most, b .least, b .most)) ∙ rw (ne-eqb k j e)
     ]
 
-kinds : (k : ℕ) → (lengthOf k ≡ 0 → ⊥) → (1 ≤ k) × (k ≤ 2)
-kinds k h =
-    elim (ℕ-discrete k 1) [
-      | yes e ↦ (omega arith, omega arith)
-      | no e ↦ elim (ℕ-discrete k 2) [
-        | yes d ↦ (omega arith, omega arith)
-        | no d ↦ absurd (h (sym (length-none k e d)))
-      ]
-    ]
+-- a and b are whether a kind is a font and a bitmap of the older edition, c and d of the newer
+sort-of : (a b c d : Bool) → (cond {A = ℕ} (a || b) 4 (cond (c || d) 7 0) ≡ 0 → ⊥) → Sort (cond (a || c) 1 (cond (b || d) 2 0))
+sort-of true b c d h = record { least = omega arith; most = omega arith }
+sort-of false b true d h = record { least = omega arith; most = omega arith }
+sort-of false true false d h = record { least = omega arith; most = omega arith }
+sort-of false false false true h = record { least = omega arith; most = omega arith }
+sort-of false false false false h = absurd (h refl)
+
+-- where a record has a length its kind has a sort
+sorted : (k : ℕ) → (lengthOf k ≡ 0 → ⊥) → Sort (sortOf k)
+unfolding lengthOf sortOf
+sorted k h = sort-of (eqb k 1) (eqb k 2) (eqb k 3) (eqb k 4) h
+
+pub entry-sort : (s : List ℕ) (p : ℕ) → (stepAt s p ≡ 0 → ⊥) → Sort (sortOf (entryAt s p .kind))
+entry-sort s p h = rw (entry-kind s p) (sorted (getD s p 0) (λ z. h (whole s p h .same ∙ z)))
 
 -- ---- entries that are not marked
 
@@ -87,7 +90,7 @@ shared false false f h = refl
 
 unfoldable pub fresh : List ℕ → List Entry → Bool
 fresh t [] = true
-fresh t (e ∷ es) = not (marked t (slot (e .kind) (e .number))) && fresh t es
+fresh t (e ∷ es) = not (marked t (slot (sortOf (e .kind)) (e .number))) && fresh t es
 
 none-there : (n i : ℕ) → getD {A = ℕ} (replicate n 0) i 0 ≡ 0
 none-there zero i = refl
@@ -100,27 +103,15 @@ unmarked n i = rw (none-there n (i / 8)) (bit-zero (i % 8))
 pub fresh-all : (n : ℕ) (es : List Entry) → fresh (replicate n 0) es ≡ true
 unfolding fresh
 fresh-all n [] = refl
-fresh-all n (e ∷ es) = rw (unmarked n (slot (e .kind) (e .number))) (fresh-all n es)
+fresh-all n (e ∷ es) = rw (unmarked n (slot (sortOf (e .kind)) (e .number))) (fresh-all n es)
 
-module _ (s : List ℕ) (b : (i : ℕ) → getD s i 0 < 256) where
-  numbered : (p : ℕ) → (stepAt s p ≡ 0 → ⊥) → Numbered (entryAt s p .kind) (entryAt s p .number)
-  unfolding entryAt
-  numbered p h =
-      let w = whole s p h in
-      let k = kinds (getD s p 0) (λ z. h (w .same ∙ z)) in
-      record { least = k .0; most = k .1; below = omega (arith, b (p + 1)) }
-
-  -- where a record stands
-  pub file-numbered : (p n : ℕ) (d : Entry) → n ≡ stepAt s p → (n ≡ 0 → ⊥) → d ≡ entryAt s p → Numbered (d .kind) (d .number)
-  file-numbered p n d e h f = rw f (numbered p (rw e at h))
-
-  module _ (t : List ℕ) (k n : ℕ) (a : Numbered k n) (l : slot k n / 8 < length t) where
-    pub fresh-mark : (p : ℕ) → fresh (mark t (slot k n)) (entriesFrom p s) ≡ (fresh t (entriesFrom p s) && not (hasFile (entriesFrom p s) k n))
-    unfolding fresh hasFile
-    fresh-mark =
-        entries-ind s (λ p es. fresh (mark t (slot k n)) es ≡ (fresh t es && not (hasFile es k n))) (λ p h. refl)
-        (λ p es h q.
-        let e = entryAt s p in
-        let c = slot-same (e .kind) (e .number) k n (numbered p h) a in
-        rw (marked-mark t (slot k n) (slot (e .kind) (e .number)) l, c, q)
-        (shared (marked t (slot (e .kind) (e .number))) (isFile e k n) (fresh t es) (hasFile es k n)))
+pub fresh-mark : (s t : List ℕ) (k n : ℕ) → Sort k → slot k n / 8 < length t → (p : ℕ)
+    → fresh (mark t (slot k n)) (entriesFrom p s) ≡ (fresh t (entriesFrom p s) && not (hasFile (entriesFrom p s) k n))
+unfolding fresh hasFile
+fresh-mark s t k n a l =
+    entries-ind s (λ p es. fresh (mark t (slot k n)) es ≡ (fresh t es && not (hasFile es k n))) (λ p h. refl)
+    (λ p es h q.
+    let e = entryAt s p in
+    let i = slot (sortOf (e .kind)) (e .number) in
+    let c = slot-same (sortOf (e .kind)) (e .number) k n (entry-sort s p h) a in
+    rw (marked-mark t (slot k n) i l, c, q) (shared (marked t i) (isFile e k n) (fresh t es) (hasFile es k n)))

@@ -12,16 +12,41 @@ use Rattle.directory.specs.declared.Totals.{Totals}
 use Rattle.directory.specs.declared.Found.{Found}
 use Rattle.directory.specs.declared.Found.the-variants.{At, Nothing}
 
--- the bytes of a record by its kind: font 1 and bitmap 2 have number, size low and size high; 0 ends the directory, and no other kind is known
+-- kinds of the older edition, font 1 and bitmap 2: a number of one byte, a size of two. Of the newer, font 3 and bitmap 4: a number of two bytes, a size of four.
+-- Low bytes come first
+abbrev pub isOlder : ℕ → Bool
+isOlder k = eqb k 1 || eqb k 2
+
+abbrev pub isNewer : ℕ → Bool
+isNewer k = eqb k 3 || eqb k 4
+
+-- the bytes of a record by its kind; 0 ends the directory, and no other kind is known
 unfoldable pub lengthOf : ℕ → ℕ
-lengthOf k = cond (eqb k 1) 4 (cond (eqb k 2) 4 0)
+lengthOf k = cond (isOlder k) 4 (cond (isNewer k) 7 0)
+
+-- the sort of a kind, whichever edition it is of: 1 for fonts, 2 for bitmaps
+unfoldable pub sortOf : ℕ → ℕ
+sortOf k = cond (eqb k 1 || eqb k 3) 1 (cond (eqb k 2 || eqb k 4) 2 0)
+
+-- the highest number of a file
+abbrev pub maxNumber : ℕ
+maxNumber = 1023
 
 -- the length of the record at byte p; 0 where no whole record stands
 unfoldable pub stepAt : List ℕ → ℕ → ℕ
 stepAt s p = cond (leb (p + lengthOf (getD s p 0)) 256) (lengthOf (getD s p 0)) 0
 
+-- a number of two bytes, and of four
+abbrev pub pairAt : List ℕ → ℕ → ℕ
+pairAt s p = getD s p 0 + 256 * getD s (p + 1) 0
+
+abbrev pub quadAt : List ℕ → ℕ → ℕ
+quadAt s p = pairAt s p + 65536 * pairAt s (p + 2)
+
 unfoldable pub entryAt : List ℕ → ℕ → Entry
-entryAt s p = record { kind = getD s p 0; number = getD s (p + 1) 0; size = getD s (p + 2) 0 + 256 * getD s (p + 3) 0 }
+entryAt s p =
+    cond (isNewer (getD s p 0)) (record { kind = getD s p 0; number = pairAt s (p + 1); size = quadAt s (p + 3) })
+    (record { kind = getD s p 0; number = getD s (p + 1) 0; size = pairAt s (p + 2) })
 
 -- the entries from byte p on, n at most
 unfoldable pub readFrom : ℕ → ℕ → List ℕ → List Entry
@@ -45,10 +70,11 @@ sizesIn [] = 0
 sizesIn (e ∷ es) = e .size + sizesIn es
 
 abbrev pub totalsOf : List Entry → Totals
-totalsOf es = record { end = bytesIn es; count = length es; used = sizesIn es }
+totalsOf es = record { end = bytesIn es; used = sizesIn es }
 
+-- file n of sort k, whichever kind holds it
 abbrev pub isFile : Entry → ℕ → ℕ → Bool
-isFile e k n = eqb (e .kind) k && eqb (e .number) n
+isFile e k n = eqb (sortOf (e .kind)) k && eqb (e .number) n
 
 unfoldable pub hasFile : List Entry → ℕ → ℕ → Bool
 hasFile [] k n = false
@@ -67,14 +93,14 @@ abbrev pub foundNumber : Found → ℕ
 foundNumber (At position start size) = accepted
 foundNumber Nothing = noSuchFile
 
--- no size 0, and not font 1
+-- no size 0, no number above the highest, and not font 1
 unfoldable pub isFair : Entry → Bool
-isFair e = not (eqb (e .size) 0) && not (isFile e 1 1)
+isFair e = not (eqb (e .size) 0) && leb (e .number) maxNumber && not (isFile e 1 1)
 
--- and no kind and number twice
+-- and no sort and number twice
 unfoldable pub keepRules : List Entry → Bool
 keepRules [] = true
-keepRules (e ∷ es) = isFair e && not (hasFile es (e .kind) (e .number)) && keepRules es
+keepRules (e ∷ es) = isFair e && not (hasFile es (sortOf (e .kind)) (e .number)) && keepRules es
 
 unfoldable pub zeros : ℕ → ℕ → List ℕ → Bool
 zeros zero p s = true
@@ -84,7 +110,11 @@ zeros (suc n) p s = eqb (getD s p 0) 0 && zeros n (p + 1) s
 unfoldable pub zerosFrom : ℕ → List ℕ → Bool
 zerosFrom p s = zeros (256 - p) p s
 
--- THE DIRECTORY KEEPS ITS RULES: zeros behind the last record, at most 63 records, each by the rules, and their sizes sum to at most the file area
+-- the bytes that all records together may have
+abbrev pub maxRecords : ℕ
+maxRecords = 255
+
+-- THE DIRECTORY KEEPS ITS RULES: zeros behind the last record, at most 255 bytes of records, each by the rules, and their sizes sum to at most the file area
 unfoldable pub validOf : List ℕ → Bool
 validOf s =
-    zerosFrom (bytesIn (entries s)) s && leb (length (entries s)) 63 && keepRules (entries s) && leb (256 + sizesIn (entries s)) (length s)
+    zerosFrom (bytesIn (entries s)) s && leb (bytesIn (entries s)) maxRecords && keepRules (entries s) && leb (256 + sizesIn (entries s)) (length s)

@@ -1,39 +1,53 @@
 // The directory of the store: the records in its first 256 bytes, read. Any bytes may stand there, and any number of them.
 ghost use mathlib.Core.Path.{_≡_};
-ghost use mathlib.Core.Bool.{_&&_};
-ghost use Prim.Native.Nat.{_+_, _-_, _*_, _≤_, _<_, min};
+ghost use mathlib.Core.Bool.{true, false, _&&_};
+ghost use Prim.Native.Nat.{_+_, _*_, _%_, _≤_, _<_, min};
 ghost use lib.Dec.{leb};
 ghost use lib.ListN.{length, getD, take, drop};
-ghost use Rattle.directory.specs.Directory.{lengthOf, stepAt, entryAt, entries, totalsOf, isFile, findOf, isFair, zerosFrom, validOf};
+ghost use Rattle.directory.specs.Directory.{isNewer, lengthOf, sortOf, stepAt, pairAt, entryAt, entries, totalsOf, isFile, findOf, isFair, zerosFrom, validOf};
 
 // The directory's bytes; the file area lies behind them.
 pub const DIRECTORY: usize = 256;
 
-pub const MAX_FILES: usize = 63;
+// The bytes that all records together may have.
+pub const MAX_RECORDS: usize = 255;
 
-// The kinds of records.
+// The sorts of files. A file is looked up by its sort and number, whichever kind of record it has.
 pub const FONT: u8 = 1;
 
 pub const BITMAP: u8 = 2;
 
+// The kinds of records: of each sort one of the older edition and one of the newer, with more bytes for number and size.
+pub const OLDER_FONT: u8 = 1;
+
+pub const OLDER_BITMAP: u8 = 2;
+
+pub const NEWER_FONT: u8 = 3;
+
+pub const NEWER_BITMAP: u8 = 4;
+
+pub const OLDER_LENGTH: usize = 4;
+
+pub const NEWER_LENGTH: usize = 7;
+
+// The highest number of a file.
+pub const MAX_NUMBER: u16 = 1023;
+
 // The font that is built in, and so in no directory.
-pub const BUILT_IN_FONT: u8 = 1;
+pub const BUILT_IN_FONT: u16 = 1;
 
-// Numbers of a kind, and the bytes of a table with a bit for each number of each of the two kinds.
-const NUMBERS: usize = 256;
-
-const SEEN: usize = 2 * NUMBERS / 8;
+// The bytes of a table with a bit for each of the 1,024 numbers of each of the two sorts.
+const SEEN: usize = 256;
 
 pub struct Entry {
     pub kind: u8,
-    pub number: u8,
+    pub number: u16,
     pub size: usize,
 }
 
-// The byte behind the last record, how many records there are, and how many bytes their files take.
+// The byte behind the last record, and how many bytes the files take.
 pub struct Totals {
     pub end: usize,
-    pub count: usize,
     pub used: usize,
 }
 
@@ -86,15 +100,24 @@ fn wide(b: u8) -> usize
 
 // The bytes of a record of this kind; 0 for none.
 pub fn record_length(kind: u8) -> usize
-    ensures { λ r. ⌜ (r ≡ lengthOf kind) × (r ≤ 4) ⌝ }
+    ensures { λ r. ⌜ (r ≡ lengthOf kind) × (r ≤ 7) ⌝ }
 {
-    if kind == FONT {
-        return 4;
+    match kind {
+        OLDER_FONT | OLDER_BITMAP => OLDER_LENGTH,
+        NEWER_FONT | NEWER_BITMAP => NEWER_LENGTH,
+        _ => 0,
     }
-    if kind == BITMAP {
-        return 4;
+}
+
+// The sort of a kind; 0 for none.
+pub fn sort_of(kind: u8) -> u8
+    ensures { λ r. ⌜ r ≡ sortOf kind ⌝ }
+{
+    match kind {
+        OLDER_FONT | NEWER_FONT => FONT,
+        OLDER_BITMAP | NEWER_BITMAP => BITMAP,
+        _ => 0,
     }
-    0
 }
 
 // The bytes of the record at p; 0 where no whole one stands.
@@ -111,70 +134,103 @@ fn step_at(store: &[u8], p: usize) -> usize
     0
 }
 
-// The record at p, all of it in the store.
-fn whole_entry(store: &[u8], p: usize) -> Entry
-    requires { ⌜ p + 4 ≤ length (now store) ⌝ }
-    ensures { λ r. ⌜ (r ≡ entryAt (now (store .entry)) p) × (r .size < 65536) ⌝ }
+// Two bytes, the low one first.
+fn pair_at(store: &[u8], p: usize) -> usize
+    requires { ⌜ p + 2 ≤ length (now store) ⌝ }
+    ensures { λ r. ⌜ (r ≡ pairAt (now (store .entry)) p) × (r < 65536) ⌝ }
 {
-    let low = wide(store[p + 2]);
-    let high = wide(store[p + 3]);
+    let low = wide(store[p]);
+    let high = wide(store[p + 1]);
+    low + 256 * high
+}
+
+// A record of the older edition: a number of one byte, a size of two.
+fn older_entry(store: &[u8], p: usize) -> Entry
+    requires { ⌜ (p + 4 ≤ length (now store)) × (isNewer (getD (now store) p 0) ≡ false) ⌝ }
+    ensures { λ r. ⌜ (r ≡ entryAt (now (store .entry)) p) × (r .size < 4294967296) ⌝ }
+{
+    let size = pair_at(store, p + 2);
     Entry {
         kind: store[p],
-        number: store[p + 1],
-        size: low + 256 * high,
+        number: store[p + 1] as u16,
+        size,
     }
 }
 
-fn entry_at(store: &[u8], p: usize) -> Entry
-    requires { ⌜ p ≤ 256 ⌝ }
-    ensures { λ r. ⌜ (r ≡ entryAt (now (store .entry)) p) × (r .size < 65536) ⌝ }
+// A record of the newer edition: a number of two bytes, a size of four.
+fn newer_entry(store: &[u8], p: usize) -> Entry
+    requires { ⌜ (p + 7 ≤ length (now store)) × (isNewer (getD (now store) p 0) ≡ true) ⌝ }
+    ensures { λ r. ⌜ (r ≡ entryAt (now (store .entry)) p) × (r .size < 4294967296) ⌝ }
 {
-    if p + 4 <= store.len() {
-        return whole_entry(store, p);
-    }
-    let low = wide(byte_at(store, p + 2));
-    let high = wide(byte_at(store, p + 3));
+    let number = pair_at(store, p + 1);
+    let low = pair_at(store, p + 3);
+    let high = pair_at(store, p + 5);
     Entry {
-        kind: byte_at(store, p),
-        number: byte_at(store, p + 1),
-        size: low + 256 * high,
+        kind: store[p],
+        number: number as u16,
+        size: low + 65536 * high,
     }
+}
+
+// The record of n bytes at p, all of it in the store.
+fn whole_entry(store: &[u8], p: usize, n: usize) -> Entry
+    requires { ⌜ (n ≡ lengthOf (getD (now store) p 0)) × (4 ≤ n) × (p + n ≤ length (now store)) ⌝ }
+    ensures { λ r. ⌜ (r ≡ entryAt (now (store .entry)) p) × (r .size < 4294967296) ⌝ }
+{
+    if n == NEWER_LENGTH {
+        return newer_entry(store, p);
+    }
+    older_entry(store, p)
+}
+
+// The record of n bytes at p; the store may end before it does.
+fn entry_at(store: &[u8], p: usize, n: usize) -> Entry
+    requires { ⌜ (n ≡ lengthOf (getD (now store) p 0)) × (4 ≤ n) × (p + n ≤ 256) ⌝ }
+    ensures { λ r. ⌜ (r ≡ entryAt (now (store .entry)) p) × (r .size < 4294967296) ⌝ }
+{
+    if p + n <= store.len() {
+        return whole_entry(store, p, n);
+    }
+    let bytes = [
+        byte_at(store, p),
+        byte_at(store, p + 1),
+        byte_at(store, p + 2),
+        byte_at(store, p + 3),
+        byte_at(store, p + 4),
+        byte_at(store, p + 5),
+        byte_at(store, p + 6),
+    ];
+    whole_entry(&bytes, 0, n)
 }
 
 pub fn tally(store: &[u8]) -> Totals
-    ensures { λ r. ⌜ (r ≡ totalsOf (entries (now (store .entry)))) × (r .end ≤ 256) × (r .used ≤ 16777216) ⌝ }
+    ensures { λ r. ⌜ (r ≡ totalsOf (entries (now (store .entry)))) × (r .end ≤ 256) × (r .used ≤ 1099511627776) ⌝ }
 {
     let mut p = 0;
-    let mut count = 0;
     let mut used = 0;
     loop {
         let n = step_at(store, p);
         if n == 0 {
-            return Totals {
-                end: p,
-                count,
-                used,
-            };
+            return Totals { end: p, used };
         }
-        let e = entry_at(store, p);
+        let e = entry_at(store, p, n);
         used += e.size;
-        count += 1;
         p += n;
     }
 }
 
-fn is_file(e: Entry, kind: u8, number: u8) -> bool
-    ensures { λ r. ⌜ r ≡ isFile e kind number ⌝ }
+fn is_file(e: Entry, sort: u8, number: u16) -> bool
+    ensures { λ r. ⌜ r ≡ isFile e sort number ⌝ }
 {
-    if e.kind != kind {
+    if e.number != number {
         return false;
     }
-    e.number == number
+    sort_of(e.kind) == sort
 }
 
-// The first file of this kind and number.
-pub fn find(store: &[u8], kind: u8, number: u8) -> Found
-    ensures { λ r. ⌜ r ≡ findOf (now (store .entry)) kind number ⌝ }
+// The first file of this sort and number.
+pub fn find(store: &[u8], sort: u8, number: u16) -> Found
+    ensures { λ r. ⌜ r ≡ findOf (now (store .entry)) sort number ⌝ }
 {
     let mut p = 0;
     let mut start = DIRECTORY;
@@ -183,9 +239,9 @@ pub fn find(store: &[u8], kind: u8, number: u8) -> Found
         if n == 0 {
             return Found::Nothing;
         }
-        let e = entry_at(store, p);
+        let e = entry_at(store, p, n);
         let size = e.size;
-        if is_file(e, kind, number) {
+        if is_file(e, sort, number) {
             return Found::At {
                 record: p,
                 start,
@@ -203,15 +259,18 @@ fn is_fair(e: Entry) -> bool
     if e.size == 0 {
         return false;
     }
+    if MAX_NUMBER < e.number {
+        return false;
+    }
     !is_file(e, FONT, BUILT_IN_FONT)
 }
 
-// The number of the bit that stands for a file in the table.
+// The number of the bit that stands for a file in the table: two bits a number, one for each sort.
 fn slot(e: Entry) -> usize
-    requires { ⌜ (1 ≤ e .kind) × (e .kind ≤ 2) ⌝ }
-    ensures { λ r. ⌜ (r ≡ 256 * (e .kind - 1) + e .number) × (r < 512) ⌝ }
+    requires { ⌜ e .number ≤ 1023 ⌝ }
+    ensures { λ r. ⌜ (r ≡ 2 * e .number + sortOf (e .kind) % 2) × (r < 2048) ⌝ }
 {
-    NUMBERS * (wide(e.kind) - 1) + wide(e.number)
+    2 * (e.number as usize) + (sort_of(e.kind) % 2) as usize
 }
 
 // Whether every byte from number `from` to the directory's end is 0. No early way out, so that many are tested at once.
@@ -230,10 +289,10 @@ fn zeros_from(store: &[u8], from: usize) -> bool
 
 // Whether the directory may end so, its records by themselves being right.
 fn closes(store: &[u8], t: Totals) -> bool
-    requires { ⌜ (256 ≤ length (now store)) × (t .used ≤ 16777216) ⌝ }
-    ensures { λ r. ⌜ r ≡ (leb (t .count) 63 && leb (256 + t .used) (length (now (store .entry))) && zerosFrom (t .end) (now (store .entry))) ⌝ }
+    requires { ⌜ (256 ≤ length (now store)) × (t .used ≤ 1099511627776) ⌝ }
+    ensures { λ r. ⌜ r ≡ (leb (t .end) 255 && leb (256 + t .used) (length (now (store .entry))) && zerosFrom (t .end) (now (store .entry))) ⌝ }
 {
-    if MAX_FILES < t.count {
+    if MAX_RECORDS < t.end {
         return false;
     }
     if store.len() < DIRECTORY + t.used {
@@ -251,21 +310,13 @@ pub fn is_valid(store: &[u8]) -> bool
     }
     let mut seen = [0u8; SEEN];
     let mut p = 0;
-    let mut count = 0;
     let mut used = 0;
     loop {
         let n = step_at(store, p);
         if n == 0 {
-            return closes(
-                store,
-                Totals {
-                    end: p,
-                    count,
-                    used,
-                },
-            );
+            return closes(store, Totals { end: p, used });
         }
-        let e = whole_entry(store, p);
+        let e = whole_entry(store, p, n);
         if !is_fair(e) {
             return false;
         }
@@ -275,7 +326,6 @@ pub fn is_valid(store: &[u8]) -> bool
         }
         seen[i / 8] = seen[i / 8] | (128u8 >> (i % 8));
         used += e.size;
-        count += 1;
         p += n;
     }
 }

@@ -16,7 +16,9 @@ use Rattle.directory.specs.Directory.{validOf}
 use Rattle.queue.specs.declared.Flow.{Flow}
 use Rattle.queue.specs.Record.{Served, served, arriveIn, takeIn}
 use Rattle.queue.proofs.Answers.{arrival-byte}
+use Rattle.state.specs.declared.Config.{Config}
 use Rattle.state.specs.declared.State.{State}
+use Rattle.state.specs.Editions.{isEdition}
 use Rattle.state.specs.State.{startState}
 use Rattle.record.specs.Layout.{recordSize}
 use Rattle.record.specs.Reading.{decodeOf}
@@ -34,7 +36,7 @@ emptied-is q e =
     sets-eq (0 ∷ 0 ∷ 0 ∷ 0 ∷ 0 ∷ []) q 80 (omega (arith, e)) ∙ ap (λ (l : List ℕ). take 80 q ++ (0 ∷ 0 ∷ 0 ∷ 0 ∷ 0 ∷ []) ++ l) (drop-of-length-le q {i = 85} (omega (arith, e)))
     ∙ append-nil (emptied q)
 
-module _ (h : ℕ) (g s st q : List ℕ) (k : Bool) (known : k ≡ isHeight h) where
+module _ (h : Config) (g s st q : List ℕ) (k : Bool) (known : k ≡ isHeight (h .height)) where
   pub start-3 : not k ≡ true → started (memory g s st) q 3 ≡ startOf h (memory g s st) q
   unfolding startOf startChecked
   start-3 n = rw (← known, not-true k n)
@@ -49,7 +51,7 @@ module _ (h : ℕ) (g s st q : List ℕ) (k : Bool) (known : k ≡ isHeight h) w
       unfolding startOf startChecked
       start-3-queue n = rw (← known, not-false k is, eq-eqb (length st) recordSize record-size, ne-eqb (length q) 85 n)
 
-      module _ (queue-size : length q ≡ 85) (z : ℕ) (sized : z ≡ lengthFor h) where
+      module _ (queue-size : length q ≡ 85) (z : ℕ) (sized : z ≡ lengthFor (h .height)) where
         pub start-1 : (length g ≡ z → ⊥) → started (memory g s st) q 1 ≡ startOf h (memory g s st) q
         unfolding startOf startChecked
         start-1 n = rw (← known, not-false k is, eq-eqb (length st) recordSize record-size, eq-eqb (length q) 85 queue-size, ← sized, ne-eqb (length g) z n)
@@ -60,10 +62,10 @@ module _ (h : ℕ) (g s st q : List ℕ) (k : Bool) (known : k ≡ isHeight h) w
           start-2 n =
               rw (← known, not-false k is, eq-eqb (length st) recordSize record-size, eq-eqb (length q) 85 queue-size, ← sized, eq-eqb (length g) z size, ← fits, n)
 
-          module _ (fine : not t ≡ false) (v : Bool) (valid : v ≡ validOf s) where
-            pub start-4 : not v ≡ true → started (memory g s st) q 4 ≡ startOf h (memory g s st) q
+          module _ (fine : not t ≡ false) (e : Bool) (named : e ≡ isEdition (h .edition)) where
+            pub start-3-edition : not e ≡ true → started (memory g s st) q 3 ≡ startOf h (memory g s st) q
             unfolding startOf startChecked
-            start-4 n =
+            start-3-edition n =
                 rw (
                   ← known,
                   not-false k is,
@@ -73,31 +75,52 @@ module _ (h : ℕ) (g s st q : List ℕ) (k : Bool) (known : k ≡ isHeight h) w
                   eq-eqb (length g) z size,
                   ← fits,
                   fine,
-                  ← valid,
+                  ← named,
                   n,
                 )
 
-            pub start-0 : (g' st' q' : List ℕ) (a : State) → not v ≡ false → g' ≡ fill everywhere false g → a ≡ startState h → st' ≡ encodedIn a st → q' ≡ emptied q
-                → started (memory g' s st') q' 0 ≡ startOf h (memory g s st) q
-            unfolding startOf startChecked
-            start-0 g' st' q' a n eg ea es eq =
-                let wrote : st' ≡ encodeOf (startState h) =
-                es ∙ ap (λ (x : State). encodedIn x st) ea ∙ written-whole (startState h) st (record { args = refl; bars = refl; strips = refl }) record-size in
-                rw (
-                  ← known,
-                  not-false k is,
-                  eq-eqb (length st) recordSize record-size,
-                  eq-eqb (length q) 85 queue-size,
-                  ← sized,
-                  eq-eqb (length g) z size,
-                  ← fits,
-                  fine,
-                  ← valid,
-                  n,
-                  eg ∙ cleared-zeros g z size,
-                  wrote,
-                  eq,
-                )
+            module _ (there : not e ≡ false) (v : Bool) (valid : v ≡ validOf s) where
+              pub start-4 : not v ≡ true → started (memory g s st) q 4 ≡ startOf h (memory g s st) q
+              unfolding startOf startChecked
+              start-4 n =
+                  rw (
+                    ← known,
+                    not-false k is,
+                    eq-eqb (length st) recordSize record-size,
+                    eq-eqb (length q) 85 queue-size,
+                    ← sized,
+                    eq-eqb (length g) z size,
+                    ← fits,
+                    fine,
+                    ← named,
+                    there,
+                    ← valid,
+                    n,
+                  )
+
+              pub start-0 : (g' st' q' : List ℕ) (a : State) → not v ≡ false → g' ≡ fill everywhere false g → a ≡ startState h → st' ≡ encodedIn a st → q' ≡ emptied q
+                  → started (memory g' s st') q' 0 ≡ startOf h (memory g s st) q
+              unfolding startOf startChecked
+              start-0 g' st' q' a n eg ea es eq =
+                  let wrote : st' ≡ encodeOf (startState h) =
+                  es ∙ ap (λ (x : State). encodedIn x st) ea ∙ written-whole (startState h) st (record { args = refl; bars = refl; strips = refl }) record-size in
+                  rw (
+                    ← known,
+                    not-false k is,
+                    eq-eqb (length st) recordSize record-size,
+                    eq-eqb (length q) 85 queue-size,
+                    ← sized,
+                    eq-eqb (length g) z size,
+                    ← fits,
+                    fine,
+                    ← named,
+                    there,
+                    ← valid,
+                    n,
+                    eg ∙ cleared-zeros g z size,
+                    wrote,
+                    eq,
+                  )
 
 -- ---- arrive and take
 

@@ -1,4 +1,4 @@
-// The four calls of a board: start, feed, arrive, take. Any bytes, of any length, may be lent to them.
+// The five calls of a board: start, feed, time, arrive, take. Any bytes, of any length, may be lent to them.
 use canvas::is_height;
 use canvas::length_for;
 use directory::is_valid;
@@ -8,6 +8,7 @@ use feed::BAD_RECORD;
 use feed::BAD_STORE;
 use feed::DONE;
 use feed::feed_piece;
+use feed::pass_time;
 use feed::store_fits;
 use queue::HELD;
 use queue::LOST;
@@ -15,13 +16,16 @@ use queue::LOST_HIGH;
 use queue::MARK;
 use queue::PLACE;
 use record::RECORD;
+use state::Config;
+use state::is_edition;
 use state::start_state;
 ghost use mathlib.Core.Path.{_≡_};
 ghost use lib.ListN.{length};
 ghost use Rattle.calls.specs.Memory.{memory};
 ghost use Rattle.calls.specs.Start.{started, startOf, emptied};
 ghost use Rattle.calls.specs.Line.{served, arriveCall, takeCall};
-ghost use Rattle.feed.specs.Called.{called, feedCall};
+ghost use Rattle.feed.specs.Called.{called, feedCall, timed, timeCall};
+ghost use Rattle.state.specs.State.{config};
 
 // Nothing held, nothing lost; the ring's bytes stay.
 fn empty_queue(queue: &mut [u8])
@@ -35,16 +39,17 @@ fn empty_queue(queue: &mut [u8])
     queue[LOST_HIGH] = 0;
 }
 
-// A white framebuffer of so many rows, the start's state, an empty queue; the store stays.
+// A white framebuffer of so many rows, the start's state in an edition of the upload protocol, an empty queue; the store stays.
 #[no_mangle]
 pub extern "C" fn display_start(
     height: u32,
+    edition: u32,
     framebuffer: &mut [u8],
     store: &mut [u8],
     state: &mut [u8],
     queue: &mut [u8],
 ) -> u32
-    ensures { λ r. ⌜ started (memory (now (framebuffer .exit)) (now (store .exit)) (now (state .exit))) (now (queue .exit)) r ≡ startOf height (memory (now (framebuffer .entry)) (now (store .entry)) (now (state .entry))) (now (queue .entry)) ⌝ }
+    ensures { λ r. ⌜ started (memory (now (framebuffer .exit)) (now (store .exit)) (now (state .exit))) (now (queue .exit)) r ≡ startOf (config height edition) (memory (now (framebuffer .entry)) (now (store .entry)) (now (state .entry))) (now (queue .entry)) ⌝ }
 {
     if !is_height(height) {
         return BAD_RECORD;
@@ -55,18 +60,24 @@ pub extern "C" fn display_start(
     if queue.len() != queue::RECORD {
         return BAD_RECORD;
     }
-    let chosen = height as u8;
-    if framebuffer.len() != length_for(chosen) {
+    let rows = height as u8;
+    if framebuffer.len() != length_for(rows) {
         return BAD_FRAMEBUFFER;
     }
     if !store_fits(store) {
         return BAD_STORE;
     }
+    if !is_edition(edition) {
+        return BAD_RECORD;
+    }
     if !is_valid(store) {
         return BAD_DIRECTORY;
     }
     scroll::clear(framebuffer);
-    let s = start_state(chosen);
+    let s = start_state(Config {
+        height: rows,
+        edition: edition as u8,
+    });
     record_write::encode(s, state);
     empty_queue(queue);
     DONE
@@ -86,6 +97,21 @@ pub extern "C" fn display_feed(
     ensures { λ r. ⌜ called r (memory (now (framebuffer .exit)) (now (store .exit)) (now (state .exit))) (now (replies .exit)) (now (consumed .exit)) (now (replied .exit)) ≡ feedCall (memory (now (framebuffer .entry)) (now (store .entry)) (now (state .entry))) (now (piece .entry)) (now (replies .entry)) ⌝ }
 {
     feed_piece(framebuffer, store, state, piece, replies, consumed, replied)
+}
+
+// Milliseconds that have passed since the last such call.
+#[no_mangle]
+pub extern "C" fn display_time(
+    framebuffer: &[u8],
+    store: &[u8],
+    state: &mut [u8],
+    milliseconds: u32,
+    replies: &mut [u8],
+    replied: &mut usize,
+) -> u32
+    ensures { λ r. ⌜ timed r (memory (now (framebuffer .entry)) (now (store .entry)) (now (state .exit))) (now (replies .exit)) (now (replied .exit)) ≡ timeCall (memory (now (framebuffer .entry)) (now (store .entry)) (now (state .entry))) milliseconds (now (replies .entry)) ⌝ }
+{
+    pass_time(framebuffer, store, state, milliseconds, replies, replied)
 }
 
 // A byte comes in on the line.

@@ -3,13 +3,12 @@
 use mathlib.Core.Path.{_≡_, _∙_, refl, sym, ap, subst}
 use mathlib.Core.Bool.{true}
 use mathlib.Core.List.{List, [], _∷_, _++_}
-use Prim.Native.Nat.{ℕ, suc, _+_, _-_, _<_, _≤_}
+use Prim.Native.Nat.{ℕ, zero, suc, _+_, _-_, _<_, _≤_}
 use native.Mathlib.Omega.{arith}
 use lib.ListN.{length, getD, take, drop, set, replicate, length-append, length-drop, take-append-drop, drop-of-length-le}
-use lib.Seq.{sets, take-all, length-sets, length-take-le, take-add, drop-cons, drop-drop, getD-drop}
+use lib.Seq.{sets, take-all, length-sets, length-take-le, take-add, drop-cons, drop-drop}
 use borrow.Author.Tests.{eq-eqb, ne-eqb, eqb-true, lt-ltb}
 use Rattle.file_laws.proofs.Written.{and-both}
-use Rattle.queue.specs.Record.{Bytes}
 use Rattle.state.specs.declared.Phase.{Phase}
 use Rattle.state.specs.declared.Phase.the-variants.{Idle}
 use Rattle.state.specs.declared.Line.{Line}
@@ -22,20 +21,20 @@ use Rattle.record.specs.Reading.{panelOf}
 use Rattle.record.specs.Writing.{panelBytes}
 use Rattle.record.proofs.Back.{panel-back}
 use Rattle.panel.proofs.Laws.{revised-whole}
-use Rattle.rules.specs.World.{World, world, height, port, panel, withPort, Outcome as Ruled}
-use Rattle.rules.specs.Step.{obey, outside, outcome, after, sent}
-use Rattle.rules.specs.Calls.{run, said, taken}
-use Rattle.rules.proofs.Streams.{run-append, said-append}
+use Rattle.rules.specs.World.{World, world, edition, port, panel, withPort, Outcome as Ruled}
+use Rattle.rules.specs.Step.{obey, outside, Input, byte, outcome, after, sent}
+use Rattle.rules.specs.Calls.{bytes, run, said, taken}
+use Rattle.rules.proofs.Streams.{run-append, said-append, bytes-length, bytes-take, bytes-drop}
+use Rattle.rules.specs.Sound.{ComesAll}
+use Rattle.rules.proofs.GoodByte.{take-comes}
 use Rattle.outcome.specs.declared.Reply.{Reply}
 use Rattle.outcome.specs.Outcome.{sentBy}
 use Rattle.outcome.specs.Contract.{Held, worldOf, Came}
-use Rattle.calls.specs.Bytes.{AllBytes}
 use Rattle.calls.specs.Memory.{Kept}
-use Rattle.calls.proofs.Lists.{take-bytes}
 use Rattle.calls.proofs.Demands.{kept-run}
 use Rattle.whole_command.specs.Whole.{commandIn, fixedArguments, wholeIn}
 use Rattle.whole_command.proofs.Whole.{sets-append}
-use Rattle.whole_command.proofs.One.{AsOne, whole-one, byte-one, whole-fits}
+use Rattle.whole_command.proofs.One.{AsOne, whole-one, input-one, whole-fits}
 use Rattle.feed.specs.Running.{Written, Ran}
 
 -- ---- a reply written
@@ -67,7 +66,7 @@ module _ (r : Reply) (g : List ℕ) (at : ℕ) where
 
 -- ---- so far
 
-pub record Feeding (w₀ : World) (p r₀ : List ℕ) (w : World) (r : List ℕ) (at i : ℕ) : Type 0 where
+pub record Feeding (w₀ : World) (p : List Input) (r₀ : List ℕ) (w : World) (r : List ℕ) (at i : ℕ) : Type 0 where
   pub kept : Kept w
   pub within : i ≤ length p
   pub next : w ≡ run w₀ (take i p)
@@ -76,21 +75,21 @@ pub record Feeding (w₀ : World) (p r₀ : List ℕ) (w : World) (r : List ℕ)
   pub room : at ≤ length r₀
   pub left : taken w₀ (length r₀) p ≡ i + taken w (length r₀ - at) (drop i p)
 
-pub feeding-start : (w : World) (p r : List ℕ) → Kept w → Feeding w p r w r 0 0
+pub feeding-start : (w : World) (p : List Input) (r : List ℕ) → Kept w → Feeding w p r w r 0 0
 unfolding run said
 feeding-start w p r k =
     let n : length r - 0 ≡ length r = omega arith in
     let z : taken w (length r) p ≡ 0 + taken w (length r) p = omega arith in
     record { kept = k; within = omega arith; next = refl; sent = refl; long = refl; room = omega arith; left = z ∙ ap (λ (m : ℕ). 0 + taken w m p) (sym n) }
 
-pub room-known : {w₀ w : World} {p r₀ r : List ℕ} {at i : ℕ} → Feeding w₀ p r₀ w r at i → (length r ≡ length r₀) × (at ≤ length r)
+pub room-known : {w₀ w : World} {p : List Input} {r₀ r : List ℕ} {at i : ℕ} → Feeding w₀ p r₀ w r at i → (length r ≡ length r₀) × (at ≤ length r)
 room-known {w₀ = w₀} {p = p} {r₀ = r₀} {r = r} {i = i} f =
     let n : length r ≡ length r₀ = ap length (f .sent) ∙ length-sets r₀ 0 (said w₀ (take i p)) in
     (n, omega (arith, n, f .room))
 
-taken-stop : (w : World) (room b : ℕ) (l : List ℕ) → room < 2 → taken w room (b ∷ l) ≡ 0
+taken-stop : (w : World) (room : ℕ) (i : Input) (l : List Input) → room < 2 → taken w room (i ∷ l) ≡ 0
 unfolding taken
-taken-stop w room b l h = rw (lt-ltb room 2 h)
+taken-stop w room i l h = rw (lt-ltb room 2 h)
 
 taken-none : (w : World) (room : ℕ) → taken w room [] ≡ 0
 unfolding taken
@@ -118,9 +117,10 @@ calm w k f =
     ap (λ (x : Line). withPort w (record { line = x; text = t .text; drawing = t .drawing; flow = t .flow; refusals = t .refusals }))
     (sym (ap (λ (x : Phase). lineOf x (t .line .args)) f ∙ ap (lineOf Idle) a))
 
-all-bytes : (l : List ℕ) → Bytes l → AllBytes l
-all-bytes [] h = Prim.tt
-all-bytes (b ∷ l) h = (h 0, all-bytes l (λ i. h (suc i)))
+drop-comes : (n : ℕ) (l : List Input) → ComesAll l → ComesAll (drop n l)
+drop-comes zero l h = h
+drop-comes (suc n) [] h = h
+drop-comes (suc n) (i ∷ l) h = drop-comes n l (h .1)
 
 -- what is lent of a piece at byte i: all that is left
 abbrev rest : List ℕ → ℕ → List ℕ
@@ -129,39 +129,44 @@ rest p i = take (length p - i) (drop i p)
 rest-is : (p : List ℕ) (i : ℕ) → rest p i ≡ drop i p
 rest-is p i = take-all (length p - i) (drop i p) (omega (arith, length-drop i p))
 
-module _ (w : World) (p : List ℕ) (i n : ℕ) (k : Kept w) where
-  pub one-kept : {v : World} {l : List ℕ} → Bytes p → AsOne w (take n (drop i p)) v l → Kept v
-  one-kept b o =
-      subst Kept (o .next)
-      (kept-run w (take n (drop i p)) k (take-bytes n (drop i p) (all-bytes (drop i p) (λ j. subst (λ (x : ℕ). x < 256) (sym (getD-drop i p j 0)) (b (i + j))))))
+pub one-kept : (w : World) (p : List Input) (i n : ℕ) → Kept w → {v : World} {l : List ℕ} → ComesAll p → AsOne w (take n (drop i p)) v l → Kept v
+one-kept w p i n k b o = subst Kept (o .next) (kept-run w (take n (drop i p)) k (take-comes n (drop i p) (drop-comes i p b)))
 
-  -- a command that stands whole
-  pub command-one : n ≡ wholeIn (port w .line .phase) (rest p i) → 0 < n
-      → AsOne w (take n (drop i p)) (after w (obey (commandIn (rest p i)) (fixedArguments (rest p i)) w)) (sent (obey (commandIn (rest p i)) (fixedArguments (rest p i)) w))
-  command-one e h =
-      let r : List ℕ = rest p i in
-      let there : 0 < wholeIn (port w .line .phase) r = subst (λ (m : ℕ). 0 < m) e h in
-      subst (λ (x : List ℕ). AsOne w x (after w (obey (commandIn r) (fixedArguments r) w)) (sent (obey (commandIn r) (fixedArguments r) w)))
-      (ap (λ (m : ℕ). take m r) (sym e) ∙ ap (take n) (rest-is p i)) (whole-one w r (calm w k) there)
+-- so many bytes of a piece from byte i on
+some-bytes : (p : List ℕ) (i n : ℕ) → bytes (take n (drop i p)) ≡ take n (drop i (bytes p))
+some-bytes p i n = bytes-take n (drop i p) ∙ ap (take n) (bytes-drop i p)
 
-pub command-fits : (p : List ℕ) (i n : ℕ) (f : Phase) → i < length p → n ≡ wholeIn f (rest p i) → 0 < n → i + n ≤ length p
-command-fits p i n f h e there =
+-- a command that stands whole
+pub command-one : (w : World) (p : List ℕ) (i n : ℕ) → Kept w → n ≡ wholeIn (edition w) (port w .line .phase) (rest p i) → 0 < n
+    → AsOne w (take n (drop i (bytes p))) (after w (obey (commandIn (rest p i)) (fixedArguments (edition w) (rest p i)) w))
+    (sent (obey (commandIn (rest p i)) (fixedArguments (edition w) (rest p i)) w))
+command-one w p i n k e h =
+    let r : List ℕ = rest p i in
+    let there : 0 < wholeIn (edition w) (port w .line .phase) r = subst (λ (m : ℕ). 0 < m) e h in
+    subst (λ (x : List Input). AsOne w x (after w (obey (commandIn r) (fixedArguments (edition w) r) w)) (sent (obey (commandIn r) (fixedArguments (edition w) r) w)))
+    (ap (λ (m : ℕ). bytes (take m r)) (sym e) ∙ ap (λ (x : List ℕ). bytes (take n x)) (rest-is p i) ∙ some-bytes p i n) (whole-one w r (calm w k) there)
+
+pub command-fits : (p : List ℕ) (i n d : ℕ) (f : Phase) → i < length p → n ≡ wholeIn d f (rest p i) → 0 < n → i + n ≤ length p
+command-fits p i n d f h e there =
     let long : length (rest p i) ≡ length p - i = ap length (rest-is p i) ∙ length-drop i p in
-    omega (arith, e, long, whole-fits f (rest p i) (subst (λ (m : ℕ). 0 < m) e there))
+    omega (arith, e, long, whole-fits d f (rest p i) (subst (λ (m : ℕ). 0 < m) e there))
 
 -- a byte
-pub byte-there : (w : World) (p : List ℕ) (i b : ℕ) → i < length p → b ≡ getD p i 0 → AsOne w (take 1 (drop i p)) (after w (outcome w b)) (sent (outcome w b))
-byte-there w p i b h e = rw (drop-cons p i 0 h, ← e) (byte-one w b)
+pub byte-there : (w : World) (p : List ℕ) (i b : ℕ) → i < length p → b ≡ getD p i 0 → AsOne w (take 1 (drop i (bytes p))) (after w (outcome w (byte b))) (sent (outcome w (byte b)))
+unfolding bytes
+byte-there w p i b h e =
+    let d : drop i (bytes p) ≡ byte b ∷ bytes (drop (suc i) p) = sym (bytes-drop i p) ∙ ap bytes (drop-cons p i 0 h) ∙ ap (λ (x : ℕ). byte x ∷ bytes (drop (suc i) p)) (sym e) in
+    rw d (input-one w (byte b))
 
-pub feeding-more : {w₀ w v' : World} {p r₀ r l' : List ℕ} {at i : ℕ} (n : ℕ) (v : World) (l q : List ℕ) (at' : ℕ) → Feeding w₀ p r₀ w r at i → Bytes p
+pub feeding-more : {w₀ w v' : World} {p : List Input} {r₀ r l' : List ℕ} {at i : ℕ} (n : ℕ) (v : World) (l q : List ℕ) (at' : ℕ) → Feeding w₀ p r₀ w r at i → ComesAll p
     → AsOne w (take n (drop i p)) v' l' → i + n ≤ length p → 2 ≤ length r - at → v ≡ v' → l ≡ l' → at' ≡ at + length l → q ≡ sets r at l → Feeding w₀ p r₀ v q at' (i + n)
 feeding-more {w₀} {w} {v'} {p} {r₀} {r} {l'} {at} {i} n v l q at' f bytes o fits free ev el ea eq =
-    let s : List ℕ = take n (drop i p) in
+    let s : List Input = take n (drop i p) in
     let L : List ℕ = said w₀ (take i p) in
     let known = room-known f in
     let sized : length s ≡ n = length-take-le n (drop i p) (omega (arith, length-drop i p)) in
     let t : take (i + n) p ≡ take i p ++ s = take-add i n p in
-    let d : drop i p ≡ s ++ drop (i + n) p = sym (take-append-drop n (drop i p)) ∙ ap (λ (x : List ℕ). s ++ x) (drop-drop n i p) in
+    let d : drop i p ≡ s ++ drop (i + n) p = sym (take-append-drop n (drop i p)) ∙ ap (λ (x : List Input). s ++ x) (drop-drop n i p) in
     let sd : said w₀ (take (i + n) p) ≡ L ++ l =
     ap (said w₀) t ∙ said-append w₀ (take i p) s ∙ ap (λ (x : World). L ++ said x s) (sym (f .next)) ∙ ap (λ (x : List ℕ). L ++ x) (o .sends ∙ sym el) in
     let nx : v ≡ run w₀ (take (i + n) p) =
@@ -173,7 +178,7 @@ feeding-more {w₀} {w} {v'} {p} {r₀} {r} {l'} {at} {i} n v l q at' f bytes o 
     let few : length l ≤ 2 = subst (λ (x : List ℕ). length x ≤ 2) (sym el) (o .few) in
     let z : length r₀ - at' ≡ length r₀ - at - length l' = omega (arith, ea, ap length el) in
     let lf : taken w₀ (length r₀) p ≡ i + n + taken v (length r₀ - at') (drop (i + n) p) =
-    f .left ∙ ap (λ (x : List ℕ). i + taken w (length r₀ - at) x) d ∙ ap (λ (k : ℕ). i + k) (o .whole (length r₀ - at) (drop (i + n) p) (omega (arith, known .0)))
+    f .left ∙ ap (λ (x : List Input). i + taken w (length r₀ - at) x) d ∙ ap (λ (k : ℕ). i + k) (o .whole (length r₀ - at) (drop (i + n) p) (omega (arith, known .0)))
     ∙ further i n (length s) (taken v' (length r₀ - at - length l') (drop (i + n) p)) sized ∙ ap (λ (k : ℕ). i + n + taken v' k (drop (i + n) p)) (sym z)
     ∙ ap (λ (x : World). i + n + taken x (length r₀ - at') (drop (i + n) p)) (sym ev) in
     record {
@@ -201,18 +206,18 @@ stepped m n o l k written came =
     ap (λ (x : Held). x .panel-bytes) (came .next) ∙ revised-whole (m .panel-bytes) (v .state .panel) (written .again) (f .sixteen) (f .eight) in
     let q : panelOf (n .panel-bytes) ≡ v .state .panel = ap panelOf e ∙ panel-back (v .state .panel) (f .sixteen) (f .eight) in
     record {
-      next = ap (λ (x : Held). world (x .framebuffer) (x .store) (state (x .height) (x .port) (panelOf (n .panel-bytes)))) (came .next) ∙ ap (λ (y : Panel). world (v .framebuffer) (v .store) (state (height v) (v .state .port) y)) q;
+      next = ap (λ (x : Held). world (x .framebuffer) (x .store) (state (x .config) (x .port) (panelOf (n .panel-bytes)))) (came .next) ∙ ap (λ (y : Panel). world (v .framebuffer) (v .store) (state (v .state .config) (v .state .port) y)) q;
       sends = came .sends;
       written = record { again = e ∙ ap panelBytes (sym q) };
     }
 
 -- ---- the ends
 
-pub feeding-stop : {w₀ w : World} {p r₀ r : List ℕ} {at i : ℕ} → Feeding w₀ p r₀ w r at i → i < length p → length r - at < 2 → Ran w₀ p r₀ w r 5 i at
+feeding-stop : {w₀ w : World} {p : List Input} {r₀ r : List ℕ} {at i : ℕ} → Feeding w₀ p r₀ w r at i → i < length p → length r - at < 2 → Ran w₀ p r₀ w r 5 i at
 feeding-stop {w₀} {w} {p} {r₀} {r} {at} {i} f h full =
     let n = room-known f in
     let z : taken w (length r₀ - at) (drop i p) ≡ 0 =
-    ap (taken w (length r₀ - at)) (drop-cons p i 0 h) ∙ taken-stop w (length r₀ - at) (getD p i 0) (drop (suc i) p) (omega (arith, n .0)) in
+    ap (taken w (length r₀ - at)) (drop-cons p i (byte 0) h) ∙ taken-stop w (length r₀ - at) (getD p i (byte 0)) (drop (suc i) p) (omega (arith, n .0)) in
     record {
       kept = f .kept;
       count = omega (arith, f .left, z);
@@ -222,7 +227,7 @@ feeding-stop {w₀} {w} {p} {r₀} {r} {at} {i} f h full =
       says = rw (ne-eqb i (length p) (λ e. absurd (omega (arith, e))));
     }
 
-pub feeding-end : {w₀ w : World} {p r₀ r : List ℕ} {at i : ℕ} → Feeding w₀ p r₀ w r at i → length p ≤ i → Ran w₀ p r₀ w r 0 i at
+feeding-end : {w₀ w : World} {p : List Input} {r₀ r : List ℕ} {at i : ℕ} → Feeding w₀ p r₀ w r at i → length p ≤ i → Ran w₀ p r₀ w r 0 i at
 feeding-end {w₀} {w} {p} {r₀} {r} {at} {i} f h =
     let z : taken w (length r₀ - at) (drop i p) ≡ 0 = ap (taken w (length r₀ - at)) (drop-of-length-le p {i = i} h) ∙ taken-none w (length r₀ - at) in
     record {
@@ -233,3 +238,14 @@ feeding-end {w₀} {w} {p} {r₀} {r} {at} {i} f h =
       long = f .long;
       says = rw (eq-eqb i (length p) (omega (arith, f .within)));
     }
+
+-- ---- of the bytes of a piece
+
+pub in-piece : (p : List ℕ) (n : ℕ) → n ≤ length p → n ≤ length (bytes p)
+in-piece p n h = omega (arith, bytes-length p)
+
+pub piece-stop : (p : List ℕ) {w₀ w : World} {r₀ r : List ℕ} {at i : ℕ} → Feeding w₀ (bytes p) r₀ w r at i → i < length p → length r - at < 2 → Ran w₀ (bytes p) r₀ w r 5 i at
+piece-stop p f h full = feeding-stop f (omega (arith, bytes-length p)) full
+
+pub piece-end : (p : List ℕ) {w₀ w : World} {r₀ r : List ℕ} {at i : ℕ} → Feeding w₀ (bytes p) r₀ w r at i → length p ≤ i → Ran w₀ (bytes p) r₀ w r 0 i at
+piece-end p f h = feeding-end f (omega (arith, bytes-length p))

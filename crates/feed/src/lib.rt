@@ -1,12 +1,15 @@
-// A piece of the stream over lent memory: checked, obeyed as far as the reply room goes, and written back.
+// What comes in over lent memory, a piece of the stream or time: checked, obeyed as far as the reply room goes, and written back.
 use canvas::length_for;
 use directory::is_valid;
+use interpreter::pass;
 use interpreter::step;
 use outcome::Reply;
 use record::PANEL;
 use record::RECORD;
+use record::config_in;
 use record::decode_port;
 use record_write::encode_port;
+use state::Config;
 use state::Phase;
 use state::Port;
 use storage::is_turned_away;
@@ -18,12 +21,13 @@ ghost use lib.ListN.{length, drop};
 ghost use lib.Seq.{sets};
 ghost use Rattle.state.specs.State.{state};
 ghost use Rattle.record.specs.Layout.{panelAt, recordSize};
-ghost use Rattle.record.specs.Reading.{heightIn, panelOf};
+ghost use Rattle.record.specs.Reading.{portOf, panelOf, configIn};
 ghost use Rattle.record.specs.Writing.{encodeOf};
 ghost use Rattle.rules.specs.World.{world};
+ghost use Rattle.rules.specs.Calls.{bytes};
 ghost use Rattle.outcome.specs.Outcome.{sentBy};
-ghost use Rattle.calls.specs.Memory.{memory, storeFits, uploadRefused, Kept};
-ghost use Rattle.feed.specs.Called.{called, feedCall};
+ghost use Rattle.calls.specs.Memory.{memory, storeFits, uploadRefused, checked, Kept};
+ghost use Rattle.feed.specs.Called.{called, feedCall, timed, timeCall};
 ghost use Rattle.feed.specs.Running.{Written, Ran, RanOn};
 
 // Answers; those of the queue are its own.
@@ -75,13 +79,13 @@ fn run(
     framebuffer: &mut [u8],
     store: &mut [u8],
     panel: &mut [u8],
-    height: u8,
+    config: Config,
     port: Port,
     piece: &[u8],
     replies: &mut [u8],
 ) -> Progress
-    requires { ⌜ Kept (world (now framebuffer) (now store) (state height port (panelOf (now panel)))) × Written (now panel) ⌝ }
-    ensures { λ r. ⌜ Ran (world (now (framebuffer .entry)) (now (store .entry)) (state height port (panelOf (now (panel .entry))))) (now (piece .entry)) (now (replies .entry)) (world (now (framebuffer .exit)) (now (store .exit)) (state height (r .port) (panelOf (now (panel .exit))))) (now (replies .exit)) (r .answer) (r .consumed) (r .replied) × Written (now (panel .exit)) ⌝ }
+    requires { ⌜ Kept (world (now framebuffer) (now store) (state config port (panelOf (now panel)))) × Written (now panel) ⌝ }
+    ensures { λ r. ⌜ Ran (world (now (framebuffer .entry)) (now (store .entry)) (state config port (panelOf (now (panel .entry))))) (bytes (now (piece .entry))) (now (replies .entry)) (world (now (framebuffer .exit)) (now (store .exit)) (state config (r .port) (panelOf (now (panel .exit))))) (now (replies .exit)) (r .answer) (r .consumed) (r .replied) × Written (now (panel .exit)) ⌝ }
 {
     let mut p = port;
     let mut i = 0;
@@ -98,16 +102,16 @@ fn run(
         let line = p.line;
         let phase = line.phase;
         let rest = &piece[i..];
-        let n = whole_length(phase, rest);
+        let n = whole_length(config.edition, phase, rest);
         if n > 0 {
-            let o = obey_whole(framebuffer, store, panel, p, height, rest);
+            let o = obey_whole(framebuffer, store, panel, p, config, rest);
             let next = o.port;
             p = next;
             i += n;
             at = send(replies, at, o.reply);
             continue;
         }
-        let o = step(framebuffer, store, panel, p, height, piece[i]);
+        let o = step(framebuffer, store, panel, p, config, piece[i]);
         let next = o.port;
         p = next;
         i += 1;
@@ -126,19 +130,19 @@ fn run_on(
     framebuffer: &mut [u8],
     store: &mut [u8],
     record: &mut [u8],
-    height: u8,
+    config: Config,
     port: Port,
     piece: &[u8],
     replies: &mut [u8],
 ) -> Progress
-    requires { ⌜ Kept (world (now framebuffer) (now store) (state height port (panelOf (drop panelAt (now «record»))))) × Written (drop panelAt (now «record»)) × (length (now «record») ≡ recordSize) × (height ≡ heightIn (now «record»)) × (encodeOf (state height port (panelOf (drop panelAt (now «record»)))) ≡ now «record») ⌝ }
-    ensures { λ r. ⌜ RanOn (now (framebuffer .entry)) (now (store .entry)) (now («record» .entry)) height port (now (piece .entry)) (now (replies .entry)) (now (framebuffer .exit)) (now (store .exit)) (now («record» .exit)) (r .port) (now (replies .exit)) (r .answer) (r .consumed) (r .replied) ⌝ }
+    requires { ⌜ Kept (world (now framebuffer) (now store) (state config port (panelOf (drop panelAt (now «record»))))) × Written (drop panelAt (now «record»)) × (length (now «record») ≡ recordSize) × (config ≡ configIn (now «record»)) × (encodeOf (state config port (panelOf (drop panelAt (now «record»)))) ≡ now «record») ⌝ }
+    ensures { λ r. ⌜ RanOn (now (framebuffer .entry)) (now (store .entry)) (now («record» .entry)) config port (bytes (now (piece .entry))) (now (replies .entry)) (now (framebuffer .exit)) (now (store .exit)) (now («record» .exit)) (r .port) (now (replies .exit)) (r .answer) (r .consumed) (r .replied) ⌝ }
 {
     let ran = run(
         framebuffer,
         store,
         &mut record[PANEL..RECORD],
-        height,
+        config,
         port,
         piece,
         replies,
@@ -162,8 +166,8 @@ pub fn store_fits(store: &[u8]) -> bool
 }
 
 // Whether an upload under way would now be refused.
-fn is_blocked(store: &[u8], phase: Phase) -> bool
-    ensures { λ r. ⌜ r ≡ uploadRefused (now (store .entry)) phase ⌝ }
+fn is_blocked(store: &[u8], edition: u8, phase: Phase) -> bool
+    ensures { λ r. ⌜ r ≡ uploadRefused edition (now (store .entry)) phase ⌝ }
 {
     match phase {
         Phase::Idle => false,
@@ -177,14 +181,41 @@ fn is_blocked(store: &[u8], phase: Phase) -> bool
             done: _,
         } => false,
         Phase::Upload {
-            kind,
+            sort,
             number,
             size,
             stored: _,
             waiting: _,
             byte: _,
-        } => is_turned_away(store, kind, number, size),
+            waited: _,
+        } => is_turned_away(store, edition, sort, number, size),
     }
+}
+
+// The checks that a call makes first, in their order, with what was read of the record.
+fn check(framebuffer: &[u8], store: &[u8], state: &[u8], config: Config, phase: Phase) -> u32
+    requires { ⌜ (config ≡ configIn (now state)) × (phase ≡ portOf (now state) .line .phase) ⌝ }
+    ensures { λ r. ⌜ r ≡ checked (memory (now (framebuffer .entry)) (now (store .entry)) (now (state .entry))) ⌝ }
+{
+    if !record_check::is_recognised(state) {
+        return BAD_RECORD;
+    }
+    if framebuffer.len() != length_for(config.height) {
+        return BAD_FRAMEBUFFER;
+    }
+    if !store_fits(store) {
+        return BAD_STORE;
+    }
+    if !record_check::is_record(state) {
+        return BAD_RECORD;
+    }
+    if !is_valid(store) {
+        return BAD_DIRECTORY;
+    }
+    if is_blocked(store, config.edition, phase) {
+        return BAD_DIRECTORY;
+    }
+    DONE
 }
 
 // A piece of the stream: memory that does not pass the checks is left as it is.
@@ -201,30 +232,46 @@ pub fn feed_piece(
 {
     *consumed = 0;
     *replied = 0;
-    if !record_check::is_recognised(state) {
-        return BAD_RECORD;
-    }
-    let height = record::height_in(state);
-    if framebuffer.len() != length_for(height) {
-        return BAD_FRAMEBUFFER;
-    }
-    if !store_fits(store) {
-        return BAD_STORE;
-    }
-    if !record_check::is_record(state) {
-        return BAD_RECORD;
-    }
-    if !is_valid(store) {
-        return BAD_DIRECTORY;
-    }
+    let config = config_in(state);
     let port = decode_port(state);
     let line = port.line;
     let phase = line.phase;
-    if is_blocked(store, phase) {
-        return BAD_DIRECTORY;
+    let answer = check(framebuffer, store, state, config, phase);
+    if answer != DONE {
+        return answer;
     }
-    let ran = run_on(framebuffer, store, state, height, port, piece, replies);
+    let ran = run_on(framebuffer, store, state, config, port, piece, replies);
     *consumed = ran.consumed;
     *replied = ran.replied;
     ran.answer
+}
+
+// Milliseconds that have passed, checked and answered as a piece of one byte is.
+pub fn pass_time(
+    framebuffer: &[u8],
+    store: &[u8],
+    state: &mut [u8],
+    milliseconds: u32,
+    replies: &mut [u8],
+    replied: &mut usize,
+) -> u32
+    ensures { λ r. ⌜ timed r (memory (now (framebuffer .entry)) (now (store .entry)) (now (state .exit))) (now (replies .exit)) (now (replied .exit)) ≡ timeCall (memory (now (framebuffer .entry)) (now (store .entry)) (now (state .entry))) milliseconds (now (replies .entry)) ⌝ }
+{
+    *replied = 0;
+    let config = config_in(state);
+    let port = decode_port(state);
+    let line = port.line;
+    let phase = line.phase;
+    let answer = check(framebuffer, store, state, config, phase);
+    if answer != DONE {
+        return answer;
+    }
+    if replies.len() < REPLY_ROOM {
+        return NO_REPLY_ROOM;
+    }
+    let o = pass(port, milliseconds);
+    let next = o.port;
+    encode_port(next, state);
+    *replied = send(replies, 0, o.reply);
+    DONE
 }

@@ -1,36 +1,21 @@
 -- A record and its file taken out.
 -- Assumes nothing.
 use mathlib.Core.Path.{_≡_, refl, sym, ap, subst, _∙_}
-use mathlib.Core.List.{List, [], _∷_, _++_, append-assoc, append-nil}
-use mathlib.Core.Bool.{Bool, true, false, cond, _&&_, _||_, not, false≢true}
-use Prim.Native.Nat.{ℕ, zero, suc, _+_, _-_, _*_, _/_, _%_, _≤_, _<_}
+use mathlib.Core.List.{List, [], _∷_, _++_, append-assoc}
+use mathlib.Core.Bool.{Bool, true, false, _||_, false≢true}
+use Prim.Native.Nat.{ℕ, _+_, _-_, _≤_}
 use native.Mathlib.Omega.{arith}
-use lib.ListN.{length, getD, take, drop, set, replicate, length-append, length-drop, length-take, length-replicate, take-append-drop, replicate-append-replicate}
-use lib.Seq.{paste, take-at, drop-at, drop-append-add, take-append-add, take-append-le, drop-append-le, length-take-le, take-all, drop-drop}
+use lib.ListN.{length, drop, replicate, length-append, length-replicate, replicate-append-replicate}
+use lib.Seq.{paste, drop-at, drop-append-add, drop-drop}
 use Rattle.directory.specs.declared.Entry.{Entry}
-use Rattle.directory.specs.Directory.{lengthOf, entryAt, entries, bytesIn, sizesIn, isFile, hasFile, isFair, keepRules, validOf}
+use Rattle.directory.specs.Directory.{lengthOf, entryAt, entries, bytesIn, sizesIn, isFile, hasFile, validOf}
 use Rattle.files.specs.Files.{recordBytes}
-use Rattle.file_laws.specs.Layout.{recordsOf, directoryOf, before, after, without, sizeOf, movedDown, withoutFile, fileIn, fileOf}
-use Rattle.file_laws.proofs.Written.{Bytes, Proper, AllProper, Valid, valid, formed, canonical, entries-written, valid-written, directory-long, length-four, record-long, records-long, records-append, bytes-append, sizes-append, proper-append, entry-seam}
+use Rattle.file_laws.specs.Layout.{recordsOf, directoryOf, before, after, sizeOf, movedDown, withoutFile}
+use Rattle.file_laws.proofs.Written.{Bytes, Proper, AllProper, formed, canonical, directory-long, records-long, records-append, bytes-append, sizes-append}
+use Rattle.file_laws.proofs.Records.{record-long, entry-seam}
+use Rattle.file_laws.proofs.Seams.{paste-seam, paste-whole, paste-right}
 
--- m elements pasted at the seam
-pub paste-seam : (w t r u : List ℕ) (n m : ℕ) → length w ≡ n → length r ≡ m → paste (w ++ t) n (r ++ u) m ≡ w ++ (r ++ drop m t)
-paste-seam w t r u n m h k =
-    let d : drop (n + m) (w ++ t) ≡ drop m t = rw (← h) (drop-append-add w t m) in
-    rw (take-at w t n h, take-at r u m k, d, append-assoc)
-
-pub paste-whole : (w t r : List ℕ) (n m : ℕ) → length w ≡ n → length r ≡ m → paste (w ++ t) n r m ≡ w ++ (r ++ drop m t)
-paste-whole w t r n m h k =
-    let d : drop (n + m) (w ++ t) ≡ drop m t = rw (← h) (drop-append-add w t m) in
-    rw (take-at w t n h, take-all m r (omega arith), d, append-assoc)
-
--- behind the seam
-pub paste-right : (d t r : List ℕ) (a n m : ℕ) → n ≡ length d + a → paste (d ++ t) n r m ≡ d ++ paste t a r m
-paste-right d t r a n m h =
-    let e : n + m ≡ length d + (a + m) = omega arith in
-    rw (e, h, take-append-add d t a, drop-append-add d t (a + m), append-assoc, append-assoc, append-assoc)
-
--- where the record of this kind and number stands
+-- where the record of this sort and number stands
 pub record Split (es : List Entry) (k n : ℕ) : Type 0 where
   pub the : Entry
   pub is : isFile the k n ≡ true
@@ -88,23 +73,13 @@ directory-less xs ys e u s s₁ s₂ at n end ax pe ay ha hn he hl hs h₁ h₂ 
     let m : n + (256 - end) ≡ 256 - (bytesIn xs + bytesIn ys) = omega arith in
     p₂ ∙ rw (k, bytes-append xs ys, records-append xs ys, ← m, ← replicate-append-replicate {A = ℕ} n (256 - end) 0, append-assoc, append-assoc, append-assoc, append-assoc)
 
--- what a delete knows of where things stand
-pub record There (s : List ℕ) (k n at start : ℕ) (e : Entry) : Type 0 where
-  pub known : lengthOf (e .kind) ≡ 0 → ⊥
-  pub length4 : 4 ≡ lengthOf (e .kind)
-  pub inside : at + lengthOf (e .kind) ≤ bytesIn (entries s)
-  pub whole : bytesIn (entries s) ≤ 256
-  pub low : 256 ≤ start
-  pub high : start + e .size ≤ 256 + sizesIn (entries s)
-  pub room : 256 + sizesIn (entries s) ≤ length s
-
-at-record : (s : List ℕ) (xs ys : List Entry) (e : Entry) (u : List ℕ) → AllProper xs → s ≡ directoryOf (xs ++ (e ∷ ys)) ++ u → e ≡ entryAt s (bytesIn xs)
+at-record : (s : List ℕ) (xs ys : List Entry) (e : Entry) (u : List ℕ) → AllProper xs → Proper e → s ≡ directoryOf (xs ++ (e ∷ ys)) ++ u → e ≡ entryAt s (bytesIn xs)
 unfolding directoryOf recordsOf
-at-record s xs ys e u a h =
+at-record s xs ys e u a p h =
     let x = recordsOf xs in
     let t : List ℕ = recordsOf ys ++ (replicate (256 - bytesIn (xs ++ (e ∷ ys))) 0 ++ u) in
     let s' : s ≡ x ++ (recordBytes e ++ t) = h ∙ rw (records-append xs (e ∷ ys), append-assoc, append-assoc, append-assoc) in
-    rw (s', ← records-long xs a) (entry-seam x e t)
+    rw (s', ← records-long xs a) (entry-seam x e t p)
 
 module _ (s : List ℕ) (b : Bytes s) (l : 256 ≤ length s) (v : validOf s ≡ true) (k n : ℕ) (has : hasFile (entries s) k n ≡ true) where
   abbrev pub es : List Entry
@@ -134,23 +109,7 @@ module _ (s : List ℕ) (b : Bytes s) (l : 256 ≤ length s) (v : validOf s ≡ 
   canonical-cut = canonical s b l v ∙ ap (λ (z : List Entry). directoryOf z ++ drop 256 s) (cut .parts)
 
   pub the-entry : (at : ℕ) → at ≡ bytesIn xs → cut .the ≡ entryAt s at
-  the-entry at h = rw h (at-record s xs ys (cut .the) (drop 256 s) (proper-left xs _ all) canonical-cut)
-
-  pub there : (at start : ℕ) (e : Entry) → at ≡ bytesIn xs → start ≡ 256 + sizesIn xs → e ≡ entryAt s at → There s k n at start e
-  there at start e ha hs he =
-      let q : e ≡ cut .the = he ∙ sym (the-entry at ha) in
-      let p = proper-right xs (cut .the ∷ ys) all .0 in
-      let f = formed s b l 0 .fits (omega arith) in
-      let w = valid s v .room in
-      rw q (record {
-        known = p .known;
-        length4 = length-four (cut .the .kind) (p .known);
-        inside = omega (arith, bytes-cut);
-        whole = omega (arith, f);
-        low = omega arith;
-        high = omega (arith, sizes-cut);
-        room = omega (arith, w);
-      })
+  the-entry at h = rw h (at-record s xs ys (cut .the) (drop 256 s) (proper-left xs _ all) (proper-right xs (cut .the ∷ ys) all .0) canonical-cut)
 
   -- what the three moves leave is what the definition says
   pub file-less : (s₁ s₂ s₃ : List ℕ) (at start len end used : ℕ) (e : Entry)
@@ -162,16 +121,16 @@ module _ (s : List ℕ) (b : Bytes s) (l : 256 ≤ length s) (v : validOf s ≡ 
   unfolding withoutFile
   file-less s₁ s₂ s₃ at start len end used e ha hs he hl hend hu h₁ h₂ h₃ =
       let q : e ≡ cut .the = he ∙ sym (the-entry at ha) in
-      let t = there at start e ha hs he in
+      let w : bytesIn es ≤ 256 = omega (arith, formed s b l 0 .fits (omega arith)) in
       let d : List ℕ = directoryOf (xs ++ (cut .the ∷ ys)) in
       let u : List ℕ = drop 256 s in
       let a = sizesIn xs in
       let z = cut .the .size in
       let m : 256 + used - (start + e .size) ≡ sizesIn ys = rw q (omega (arith, sizes-cut)) in
-      let ld : length d ≡ 256 = directory-long _ all (omega (arith, ap bytesIn (cut .parts), t .whole)) in
+      let ld : length d ≡ 256 = directory-long _ all (omega (arith, ap bytesIn (cut .parts))) in
       let f : start + e .size ≡ length d + (a + z) = rw q (omega arith) in
       let g : drop (start + e .size) s ≡ drop (a + z) u = rw (f) (ap (drop (length d + (a + z))) canonical-cut ∙ drop-append-add d u (a + z)) in
       let p₁ : s₁ ≡ d ++ movedDown u a z (sizesIn ys) = h₁ ∙ rw (g, m) (ap (λ (w : List ℕ). paste w start (drop (a + z) u) (sizesIn ys)) canonical-cut ∙ paste-right d u (drop (a + z) u) a start (sizesIn ys) (omega arith)) in
       rw (cut .size)
       (directory-less xs ys (cut .the) (movedDown u a z (sizesIn ys)) s₁ s₂ s₃ at len end (proper-left xs _ all) (proper-right xs (cut .the ∷ ys) all .0) (proper-right xs (cut .the ∷ ys) all .1)
-      ha (hl ∙ ap (λ (w : Entry). lengthOf (w .kind)) q) (omega (arith, bytes-cut, hl, ap (λ (w : Entry). lengthOf (w .kind)) q)) (omega (arith, t .whole)) p₁ h₂ h₃)
+      ha (hl ∙ ap (λ (w : Entry). lengthOf (w .kind)) q) (omega (arith, bytes-cut, hl, ap (λ (w : Entry). lengthOf (w .kind)) q)) (omega arith) p₁ h₂ h₃)

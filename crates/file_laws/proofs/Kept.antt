@@ -1,22 +1,20 @@
 -- What a new record and a delete keep: the other records, their files' bytes, and the rules.
 -- Assumes nothing.
 use mathlib.Core.Path.{_≡_, refl, sym, ap, subst, _∙_}
-use mathlib.Core.List.{List, [], _∷_, _++_, append-assoc, append-nil}
-use mathlib.Core.Bool.{Bool, true, false, cond, _&&_, _||_, not, false≢true}
-use Prim.Native.Nat.{ℕ, zero, suc, _+_, _-_, _*_, _≤_, _<_}
+use mathlib.Core.List.{List, [], _∷_, _++_, append-assoc}
+use mathlib.Core.Bool.{Bool, true, false, cond, _&&_, _||_}
+use Prim.Native.Nat.{ℕ, _+_, _≤_}
 use native.Mathlib.Omega.{arith}
 use lib.Dec.{eqb}
-use lib.ListN.{length, getD, take, drop, length-append, length-drop, length-take, take-append-drop}
-use lib.Seq.{paste, length-paste, drop-at, take-append-le, drop-append-le, length-take-le, drop-drop}
-use borrow.Author.Tests.{eqb-true, eqb-false, eq-eqb, ne-eqb, le-leb}
+use lib.ListN.{length, take, drop, length-drop, take-append-drop}
+use lib.Seq.{drop-at, take-append-le, drop-append-le, length-take-le, drop-drop}
+use borrow.Author.Tests.{eqb-true}
 use Rattle.directory.specs.declared.Entry.{Entry}
-use Rattle.directory.specs.declared.Found.{Found}
-use Rattle.directory.specs.declared.Found.the-variants.{At, Nothing}
-use Rattle.directory.specs.Directory.{lengthOf, entryAt, entries, bytesIn, sizesIn, isFile, hasFile, findIn, findOf, isFair, keepRules, validOf}
-use Rattle.files.specs.Files.{recordBytes}
-use Rattle.file_laws.specs.Layout.{recordsOf, directoryOf, before, after, without, sizeOf, movedDown, withRecord, withoutFile, fileIn, fileOf, foundBytes}
-use Rattle.file_laws.proofs.Written.{Bytes, Proper, AllProper, Valid, valid, formed, entries-written, valid-written, directory-long, length-four, bytes-append, sizes-append, proper-append, and-both}
-use Rattle.file_laws.proofs.Delete.{Split, split, proper-left, proper-right, bytes-cut, sizes-cut, cut, all}
+use Rattle.directory.specs.declared.Found.the-variants.{At}
+use Rattle.directory.specs.Directory.{lengthOf, sortOf, entries, bytesIn, sizesIn, isFile, hasFile, findIn, findOf, validOf}
+use Rattle.file_laws.specs.Layout.{directoryOf, before, after, without, sizeOf, movedDown, withoutFile, fileIn, fileOf, foundBytes}
+use Rattle.file_laws.proofs.Written.{Bytes, AllProper, valid, formed, entries-written, directory-long, bytes-append, proper-append, and-both}
+use Rattle.file_laws.proofs.Delete.{split, proper-left, proper-right, bytes-cut, sizes-cut}
 
 -- Where a file was found its bytes are.
 
@@ -66,8 +64,8 @@ front (x ∷ xs) ys a u k n h = front-cons x xs ys a u k n (isFile x k n) (omega
 -- the file that is taken out is another
 other : (e : Entry) (k n k' n' : ℕ) → isFile e k n ≡ true → (eqb k k' && eqb n n') ≡ false → isFile e k' n' ≡ false
 other e k n k' n' h f =
-    let q = and-both (eqb (e .kind) k) (eqb (e .number) n) h in
-    rw (eqb-true (e .kind) k (q .0), eqb-true (e .number) n (q .1)) f
+    let q = and-both (eqb (sortOf (e .kind)) k) (eqb (e .number) n) h in
+    rw (eqb-true (sortOf (e .kind)) k (q .0), eqb-true (e .number) n (q .1)) f
 
 kept-in : (xs ys : List Entry) (e : Entry) (u : List ℕ) (k n : ℕ) → isFile e k n ≡ false → sizesIn xs + (e .size + sizesIn ys) ≤ length u
     → fileIn (xs ++ ys) (movedDown u (sizesIn xs) (e .size) (sizesIn ys)) k n ≡ fileIn (xs ++ (e ∷ ys)) u k n

@@ -1,4 +1,6 @@
+pub mod Records
 pub mod Written
+pub mod Seams
 pub mod Append
 pub mod Delete
 pub mod Kept

@@ -2,25 +2,24 @@
 -- Assumes nothing.
 use mathlib.Core.Path.{_≡_, refl, sym, ap, _∙_}
 use mathlib.Core.List.{List, [], _∷_, _++_}
-use mathlib.Core.Bool.{Bool, true, false, cond, _&&_, _||_, false≢true}
-use Prim.Native.Nat.{ℕ, zero, suc, _+_, _-_, _≤_, _<_, min}
+use mathlib.Core.Bool.{Bool, true, false, _||_, false≢true}
+use Prim.Native.Nat.{ℕ, _+_, _≤_, min}
 use native.Mathlib.Omega.{arith}
-use lib.Dec.{eqb, leb}
-use lib.ListN.{length, take, drop, set, replicate, length-append, length-drop, length-set, take-append-drop}
-use lib.Seq.{paste, length-paste, drop-at, length-take-le, drop-drop}
-use borrow.Author.Tests.{le-leb, eqb-true}
+use lib.ListN.{length, getD, take, drop, set, length-drop, length-set, take-append-drop}
+use lib.Seq.{drop-at, length-take-le}
+use borrow.Author.Tests.{le-leb}
 use Rattle.directory.specs.declared.Entry.{Entry}
-use Rattle.directory.specs.declared.Found.{Found}
-use Rattle.directory.specs.declared.Found.the-variants.{At, Nothing}
-use Rattle.directory.specs.Directory.{lengthOf, entryAt, entries, bytesIn, sizesIn, totalsOf, isFile, hasFile, findIn, findOf, validOf}
-use Rattle.files.specs.Files.{unusedOf, entry, appended, deletes, deletedAt, deleted, purged, storedByte, isThere}
+use Rattle.directory.specs.declared.Found.the-variants.{At}
+use Rattle.directory.specs.Directory.{lengthOf, entryAt, entries, bytesIn, sizesIn, isFile, hasFile, findIn, findOf, validOf}
+use Rattle.directory.proofs.Laws.{entry-kind}
+use Rattle.files.specs.Files.{appended, deletes, deleted, purged, storedByte}
 use Rattle.files.specs.Moves.{filesClosed, recordsClosed, closed}
-use Rattle.files.proofs.Writes.{append-in}
-use Rattle.file_laws.specs.Layout.{directoryOf, fileIn, fileOf, withRecord, before, after, without, sizeOf, movedDown, withoutFile, emptied}
-use Rattle.file_laws.proofs.Written.{Bytes, Proper, Valid, valid, formed, canonical, entries-written, valid-written, directory-long, and-both, bytes-append, sizes-append}
-use Rattle.file_laws.proofs.Append.{record-more, set-right}
-use Rattle.file_laws.proofs.Delete.{Split, split, file-less, the-entry, sizes-cut}
-use Rattle.file_laws.proofs.Kept.{enough, entries-less, all-left, short}
+use Rattle.file_laws.specs.Layout.{directoryOf, fileIn, fileOf, withRecord, before, after, without, sizeOf, withoutFile, emptied}
+use Rattle.file_laws.proofs.Written.{Bytes, Proper, valid, formed, canonical, entries-written, valid-written, directory-long, sizes-append}
+use Rattle.file_laws.proofs.Append.{record-more}
+use Rattle.file_laws.proofs.Seams.{set-right}
+use Rattle.file_laws.proofs.Delete.{split, file-less, the-entry, sizes-cut}
+use Rattle.file_laws.proofs.Kept.{enough}
 use Rattle.file_laws.proofs.Rules.{emptied-is}
 
 -- a store that keeps its rules has room for its directory
@@ -29,10 +28,11 @@ long-enough s v = omega (arith, valid s v .room)
 
 -- ---- append
 
-pub append-means : (s : List ℕ) (e : Entry) → Bytes s → validOf s ≡ true → Proper e → bytesIn (entries s) + 4 ≤ 256 → appended s e ≡ withRecord s e
+pub append-means : (s : List ℕ) (e : Entry) → Bytes s → validOf s ≡ true → Proper e → bytesIn (entries s) + lengthOf (e .kind) ≤ 256 → appended s e ≡ withRecord s e
+unfolding appended
 append-means s e b v p h =
-    sym (append-in s (e .kind) (e .number) (e .size) (totalsOf (entries s)) refl (long-enough s v) h)
-    ∙ record-more s e (bytesIn (entries s)) b (long-enough s v) v refl p h
+    let l = long-enough s v in
+    rw (le-leb 256 (length s) l, le-leb (bytesIn (entries s) + lengthOf (e .kind)) 256 h) (record-more s e b l v p h)
 
 -- ---- delete
 
@@ -51,7 +51,7 @@ find-cons false e es p a k n q i h =
     let y : a + e .size + sizesIn (before es k n) ≡ a + (e .size + sizesIn (before es k n)) = omega arith in
     rw (q, i h, x, y)
 
--- where the file of this kind and number is found
+-- where the file of this sort and number is found
 find-split : (es : List Entry) (p a k n : ℕ) → hasFile es k n ≡ true → findIn es p a k n ≡ At (p + bytesIn (before es k n)) (a + sizesIn (before es k n)) (sizeOf es k n)
 unfolding hasFile
 find-split [] p a k n h = absurd (false≢true h)
@@ -75,10 +75,13 @@ module _ (s : List ℕ) (b : Bytes s) (v : validOf s ≡ true) (k n : ℕ) (has 
       let used = sizesIn (entries s) in
       let q = the-entry s b l v k n has at refl in
       let z : entryAt s at .size ≡ sizeOf (entries s) k n = sym (c .size ∙ ap (λ (e : Entry). e .size) q) in
-      let m : lengthOf k ≡ lengthOf (entryAt s at .kind) = ap lengthOf (sym (sym (ap (λ (e : Entry). e .kind) q) ∙ eqb-true (c .the .kind) k (and-both (eqb (c .the .kind) k) _ (c .is) .0))) in
+      let len = lengthOf (getD s at 0) in
+      let m : len ≡ lengthOf (entryAt s at .kind) = ap lengthOf (sym (entry-kind s at)) in
+      let next = start + entryAt s at .size in
+      let files = filesClosed s start next (256 + used) in
+      let records = recordsClosed files at len (bytesIn (entries s)) in
       rw (le-leb (256 + used) (length s) (valid s v .room), found)
-      (rw (← z) (file-less s b l v k n has (filesClosed s start (start + entryAt s at .size) (256 + used)) (recordsClosed (filesClosed s start (start + entryAt s at .size) (256 + used)) at (lengthOf k) (bytesIn (entries s)))
-      (closed s at (lengthOf k) (bytesIn (entries s)) start (start + entryAt s at .size) (256 + used)) at start (lengthOf k) (bytesIn (entries s)) used (entryAt s at) refl refl refl m refl refl refl refl refl))
+      (rw (← z) (file-less s b l v k n has files records (closed s at len (bytesIn (entries s)) start next (256 + used)) at start len (bytesIn (entries s)) used (entryAt s at) refl refl refl m refl refl refl refl refl))
 
   -- freed room can be used at once
   pub freed : sizesIn (without (entries s) k n) + sizeOf (entries s) k n ≡ sizesIn (entries s)
@@ -110,8 +113,7 @@ module _ (s : List ℕ) (b : Bytes s) (v : validOf s ≡ true) (k c : ℕ) where
 
   pub valid-stored : validOf (storedByte s k c) ≡ true
   valid-stored =
-      rw store-means (valid-written (entries s) _ (formed s b (long-enough s v) 0 .proper) (omega (arith, formed s b (long-enough s v) 0 .fits (omega arith)))
-      (valid s v .few) (valid s v .rules) (omega (arith, length-set (drop 256 s) (sizesIn (entries s) + k) c, length-drop 256 s, valid s v .room)))
+      rw store-means (valid-written (entries s) _ (formed s b (long-enough s v) 0 .proper) (valid s v .within) (valid s v .rules) (omega (arith, length-set (drop 256 s) (sizesIn (entries s) + k) c, length-drop 256 s, valid s v .room)))
 
   -- it changes no file
   pub file-stored : (k′ n′ : ℕ) → fileOf (storedByte s k c) k′ n′ ≡ fileOf s k′ n′

@@ -1,23 +1,23 @@
 -- The store stays valid, and a new record brings its file and leaves the others.
 -- Assumes nothing.
-use mathlib.Core.Path.{_≡_, refl, sym, ap, subst, _∙_}
-use mathlib.Core.List.{List, [], _∷_, _++_, append-assoc, append-nil}
+use mathlib.Core.Path.{_≡_, refl, sym, subst, _∙_}
+use mathlib.Core.List.{List, [], _∷_, _++_}
 use mathlib.Core.Bool.{Bool, true, false, cond, _&&_, _||_, not, false≢true}
-use Prim.Native.Nat.{ℕ, zero, suc, _+_, _-_, _*_, _≤_, _<_}
+use Prim.Native.Nat.{ℕ, _+_, _-_, _≤_}
 use native.Mathlib.Omega.{arith}
 use native.Mathlib.Decide.{ℕ-discrete}
 use lib.Dec.{eqb}
-use lib.ListN.{length, getD, take, drop, replicate, length-append, length-drop, take-append-drop}
+use lib.ListN.{length, take, drop, replicate, length-drop, take-append-drop}
 use lib.Seq.{paste, length-paste, drop-at, length-take-le}
-use borrow.Author.Tests.{eq-eqb, ne-eqb, not-true, not-false}
+use borrow.Author.Tests.{ne-eqb, le-leb, not-true}
 use Rattle.directory.specs.declared.Entry.{Entry}
-use Rattle.directory.specs.Directory.{lengthOf, entries, bytesIn, sizesIn, isFile, hasFile, isFair, keepRules, validOf}
-use Rattle.files.specs.Files.{recordBytes}
-use Rattle.file_laws.specs.Layout.{directoryOf, before, after, without, sizeOf, movedDown, withRecord, withoutFile, emptied, recordsOf, fileIn, fileOf}
-use Rattle.file_laws.proofs.Written.{Bytes, Proper, AllProper, Valid, valid, formed, entries-written, valid-written, directory-long, length-four, bytes-append, sizes-append, proper-append, and-both}
-use Rattle.file_laws.proofs.Append.{entries-more}
-use Rattle.file_laws.proofs.Delete.{Split, split, bytes-cut, sizes-cut}
-use Rattle.file_laws.proofs.Kept.{enough, front, all-left, short}
+use Rattle.directory.specs.Directory.{lengthOf, sortOf, maxNumber, maxRecords, entries, bytesIn, sizesIn, isFile, hasFile, isFair, keepRules, validOf}
+use Rattle.files.specs.Files.{unusedOf}
+use Rattle.file_laws.specs.Layout.{directoryOf, before, after, sizeOf, movedDown, withRecord, withoutFile, emptied, recordsOf, fileIn, fileOf}
+use Rattle.file_laws.proofs.Written.{Bytes, Proper, valid, formed, entries-written, valid-written, directory-long, bytes-append, sizes-append, proper-append, and-both}
+use Rattle.file_laws.proofs.Append.{bytes-more, entries-more}
+use Rattle.file_laws.proofs.Delete.{split, bytes-cut, sizes-cut}
+use Rattle.file_laws.proofs.Kept.{enough, front, all-left}
 
 or-assoc : (a b c : Bool) → (a || (b || c)) ≡ ((a || b) || c)
 or-assoc true b c = refl
@@ -35,9 +35,9 @@ without-middle false false c h = h
 
 rules-less : (xs ys : List Entry) (e : Entry) → keepRules (xs ++ (e ∷ ys)) ≡ true → keepRules (xs ++ ys) ≡ true
 unfolding keepRules hasFile
-rules-less [] ys e h = and-both (isFair e && not (hasFile ys (e .kind) (e .number))) (keepRules ys) h .1
+rules-less [] ys e h = and-both (isFair e && not (hasFile ys (sortOf (e .kind)) (e .number))) (keepRules ys) h .1
 rules-less (x ∷ xs) ys e h =
-    let k = x .kind in
+    let k = sortOf (x .kind) in
     let n = x .number in
     let q = and-both (isFair x && not (hasFile (xs ++ (e ∷ ys)) k n)) (keepRules (xs ++ (e ∷ ys))) h in
     let r = and-both (isFair x) (not (hasFile (xs ++ (e ∷ ys)) k n)) (q .0) in
@@ -48,21 +48,23 @@ rules-less (x ∷ xs) ys e h =
 eqb-sym : (a b : ℕ) → eqb a b ≡ eqb b a
 eqb-sym a b = elim (ℕ-discrete a b) [ yes p ↦ rw p | no q ↦ ne-eqb a b q ∙ sym (ne-eqb b a (λ r. q (sym r))) ]
 
-file-sym : (x e : Entry) → isFile e (x .kind) (x .number) ≡ isFile x (e .kind) (e .number)
-file-sym x e = rw (eqb-sym (e .kind) (x .kind), eqb-sym (e .number) (x .number))
+file-sym : (x e : Entry) → isFile e (sortOf (x .kind)) (x .number) ≡ isFile x (sortOf (e .kind)) (e .number)
+file-sym x e = rw (eqb-sym (sortOf (e .kind)) (sortOf (x .kind)), eqb-sym (e .number) (x .number))
 
 neither : (a b : Bool) → (a || b) ≡ false → (a ≡ false) × (b ≡ false)
 neither true b h = absurd (false≢true (sym h))
 neither false b h = (refl, h)
 
-rules-more : (es : List Entry) (e : Entry) → keepRules es ≡ true → isFair e ≡ true → hasFile es (e .kind) (e .number) ≡ false → keepRules (es ++ (e ∷ [])) ≡ true
+rules-more : (es : List Entry) (e : Entry) → keepRules es ≡ true → isFair e ≡ true → hasFile es (sortOf (e .kind)) (e .number) ≡ false → keepRules (es ++ (e ∷ [])) ≡ true
 unfolding keepRules hasFile
 rules-more [] e h f g = rw f
 rules-more (x ∷ es) e h f g =
-    let q = and-both (isFair x && not (hasFile es (x .kind) (x .number))) (keepRules es) h in
-    let r = and-both (isFair x) (not (hasFile es (x .kind) (x .number))) (q .0) in
-    let w = neither (isFile x (e .kind) (e .number)) (hasFile es (e .kind) (e .number)) g in
-    let m : hasFile (es ++ (e ∷ [])) (x .kind) (x .number) ≡ false = has-append es (e ∷ []) (x .kind) (x .number) ∙ rw (not-true (hasFile es (x .kind) (x .number)) (r .1), file-sym x e, w .0) in
+    let k = sortOf (x .kind) in
+    let n = x .number in
+    let q = and-both (isFair x && not (hasFile es k n)) (keepRules es) h in
+    let r = and-both (isFair x) (not (hasFile es k n)) (q .0) in
+    let w = neither (isFile x (sortOf (e .kind)) (e .number)) (hasFile es (sortOf (e .kind)) (e .number)) g in
+    let m : hasFile (es ++ (e ∷ [])) k n ≡ false = has-append es (e ∷ []) k n ∙ rw (not-true (hasFile es k n) (r .1), file-sym x e, w .0) in
     rw (r .0, m) (rules-more es e (q .1) f (w .1))
 
 pub valid-less : (s : List ℕ) → Bytes s → 256 ≤ length s → validOf s ≡ true → (k n : ℕ) → hasFile (entries s) k n ≡ true → validOf (withoutFile s k n) ≡ true
@@ -76,29 +78,32 @@ valid-less s b l v k n has =
     let u = drop 256 s in
     let lu : length u ≡ length s - 256 = length-drop 256 s in
     let z = sizes-cut s b l v k n has in
-    let few : length (xs ++ ys) ≤ 63 = omega (arith, w .few, ap length (c .parts), length-append xs (c .the ∷ ys), length-append xs ys) in
+    let within : bytesIn (xs ++ ys) ≤ maxRecords = omega (arith, w .within, bytes-append xs ys, bytes-cut s b l v k n has) in
     let rules : keepRules (xs ++ ys) ≡ true = rules-less xs ys (c .the) (subst (λ (x : List Entry). keepRules x ≡ true) (c .parts) (w .rules)) in
     let d : length (drop (sizesIn xs + sizeOf es k n) u) ≡ length u - (sizesIn xs + sizeOf es k n) = length-drop (sizesIn xs + sizeOf es k n) u in
     let m : length (movedDown u (sizesIn xs) (sizeOf es k n) (sizesIn ys)) ≡ length u = length-paste u (sizesIn xs) (drop (sizesIn xs + sizeOf es k n) u) (sizesIn ys) (omega (arith, z, w .room, lu)) (omega (arith, z, w .room, lu, d, c .size)) in
-    valid-written (xs ++ ys) _ (all-left s b l v k n has) (short s b l v k n has) few rules (omega (arith, sizes-append xs ys, z, w .room, lu, m))
+    valid-written (xs ++ ys) _ (all-left s b l v k n has) within rules (omega (arith, sizes-append xs ys, z, w .room, lu, m))
 
-pub valid-more : (s : List ℕ) (e : Entry) → Bytes s → 256 ≤ length s → validOf s ≡ true → Proper e → bytesIn (entries s) + 4 ≤ 256 → length (entries s) < 63
-    → isFair e ≡ true → hasFile (entries s) (e .kind) (e .number) ≡ false → 256 + sizesIn (entries s) + e .size ≤ length s → validOf (withRecord s e) ≡ true
-unfolding withRecord bytesIn sizesIn
-valid-more s e b l v p r m f g z =
+pub fair : (e : Entry) → eqb (e .size) 0 ≡ false → e .number ≤ maxNumber → isFile e 1 1 ≡ false → isFair e ≡ true
+unfolding isFair
+fair e z n f = rw (z, le-leb (e .number) maxNumber n, f)
+
+pub valid-more : (s : List ℕ) (e : Entry) → Bytes s → 256 ≤ length s → validOf s ≡ true → Proper e → bytesIn (entries s) + lengthOf (e .kind) ≤ maxRecords
+    → isFair e ≡ true → hasFile (entries s) (sortOf (e .kind)) (e .number) ≡ false → e .size ≤ unusedOf s → validOf (withRecord s e) ≡ true
+unfolding withRecord sizesIn
+valid-more s e b l v p r f g z =
     let es = entries s in
     let w = valid s v in
     valid-written (es ++ (e ∷ [])) (drop 256 s) (proper-append es (e ∷ []) (formed s b l 0 .proper) (p, tt))
-    (omega (arith, bytes-append es (e ∷ []), length-four (e .kind) (p .known)))
-    (omega (arith, length-append es (e ∷ [])))
+    (omega (arith, bytes-more es e))
     (rules-more es e (w .rules) f g)
-    (omega (arith, sizes-append es (e ∷ []), length-drop 256 s))
+    (omega (arith, w .room, sizes-append es (e ∷ []), length-drop 256 s))
 
-area-more : (s : List ℕ) (e : Entry) → Bytes s → 256 ≤ length s → Proper e → bytesIn (entries s) + 4 ≤ 256 → drop 256 (withRecord s e) ≡ drop 256 s
-unfolding withRecord bytesIn
+area-more : (s : List ℕ) (e : Entry) → Bytes s → 256 ≤ length s → Proper e → bytesIn (entries s) + lengthOf (e .kind) ≤ 256 → drop 256 (withRecord s e) ≡ drop 256 s
+unfolding withRecord
 area-more s e b l p r =
     drop-at (directoryOf (entries s ++ (e ∷ []))) (drop 256 s) 256
-    (directory-long (entries s ++ (e ∷ [])) (proper-append (entries s) (e ∷ []) (formed s b l 0 .proper) (p, tt)) (omega (arith, bytes-append (entries s) (e ∷ []), length-four (e .kind) (p .known))))
+    (directory-long (entries s ++ (e ∷ [])) (proper-append (entries s) (e ∷ []) (formed s b l 0 .proper) (p, tt)) (omega (arith, bytes-more (entries s) e)))
 
 -- the files of the records before it, and the file of the new record
 more-in : (es : List Entry) (e : Entry) (u : List ℕ) (k n : ℕ) → sizesIn es ≤ length u
@@ -113,7 +118,7 @@ more-in es e u k n h =
     let y' : fileIn es u k n ≡ fileIn es (take a u) k n = rw (take-append-drop a u) at y in
     rw y' x'
 
-pub file-more : (s : List ℕ) (e : Entry) → Bytes s → 256 ≤ length s → validOf s ≡ true → Proper e → bytesIn (entries s) + 4 ≤ 256 → (k n : ℕ)
+pub file-more : (s : List ℕ) (e : Entry) → Bytes s → 256 ≤ length s → validOf s ≡ true → Proper e → bytesIn (entries s) + lengthOf (e .kind) ≤ 256 → (k n : ℕ)
     → fileOf (withRecord s e) k n ≡ cond (hasFile (entries s) k n) (fileOf s k n) (cond (isFile e k n) (take (e .size) (drop (sizesIn (entries s)) (drop 256 s))) [])
 file-more s e b l v p r k n =
     rw (entries-more s e b l p r, area-more s e b l p r) (more-in (entries s) e (drop 256 s) k n (omega (arith, valid s v .room, length-drop 256 s)))
@@ -128,13 +133,4 @@ entries-none s = entries-written [] (drop 256 s) tt (omega arith)
 
 pub valid-none : (s : List ℕ) → validOf (emptied s) ≡ true
 unfolding emptied bytesIn sizesIn keepRules
-valid-none s = valid-written [] (drop 256 s) tt (omega arith) (omega arith) refl (omega arith)
-
--- while every kind's record has four bytes, fewer than 63 records leave room for one more
-pub bytes-count : (es : List Entry) → AllProper es → bytesIn es ≡ 4 * length es
-unfolding bytesIn
-bytes-count [] a = refl
-bytes-count (e ∷ es) a = omega (arith, bytes-count es (a .1), length-four (e .kind) (a .0 .known))
-
-pub room-for-one : (s : List ℕ) → Bytes s → 256 ≤ length s → length (entries s) < 63 → bytesIn (entries s) + 4 ≤ 256
-room-for-one s b l h = omega (arith, bytes-count (entries s) (formed s b l 0 .proper))
+valid-none s = valid-written [] (drop 256 s) tt (omega arith) refl (omega arith)

@@ -1,46 +1,26 @@
 -- A directory that is written out is read back, and one that is valid is written out from what is read of it.
 -- Assumes nothing.
-use mathlib.Core.Path.{_≡_, refl, sym, ap, subst, _∙_}
+use mathlib.Core.Path.{_≡_, refl, sym, ap, _∙_}
 use mathlib.Core.List.{List, [], _∷_, _++_, append-assoc}
-use mathlib.Core.Bool.{Bool, true, false, cond, _&&_, _||_, not, false≢true}
-use Prim.Native.Nat.{ℕ, zero, suc, _+_, _-_, _*_, _/_, _%_, _≤_, _<_}
-use native.Mathlib.Nat.{add-zero}
+use mathlib.Core.Bool.{Bool, true, false, _&&_, false≢true}
+use Prim.Native.Nat.{ℕ, zero, suc, _+_, _-_, _≤_, _<_}
 use native.Mathlib.Omega.{arith}
 use native.Mathlib.Decide.{decLt}
-use native.Mathlib.Numerals.{add-one}
-use lib.ListN.{length, getD, take, drop, replicate, length-append, length-replicate, getD-replicate, List·getD-append}
-use lib.Seq.{getD-append-add, drop-cons}
+use lib.ListN.{length, getD, drop, replicate, length-append, length-replicate, getD-replicate, List·getD-append}
+use lib.Seq.{getD-append-add}
 use lib.Dec.{eqb}
-use borrow.Author.Tests.{eqb-true, eqb-false, eq-eqb, ne-eqb, le-leb, leb-true}
+use borrow.Author.Tests.{eqb-true, eq-eqb, le-leb, leb-true}
 use Rattle.directory.specs.declared.Entry.{Entry}
-use Rattle.directory.specs.Directory.{lengthOf, stepAt, entryAt, entriesFrom, entries, bytesIn, sizesIn, keepRules, zeros, zerosFrom, validOf}
-use Rattle.directory.proofs.Laws.{whole, step-in, step-past, none, more, entries-ind}
+use Rattle.directory.specs.Directory.{lengthOf, maxRecords, stepAt, entryAt, entriesFrom, entries, bytesIn, sizesIn, keepRules, zeros, zerosFrom, validOf}
+use Rattle.directory.proofs.Laws.{whole, step-in, step-past, none, more, entry-kind, entries-ind}
 use Rattle.files.specs.Files.{recordBytes}
 use Rattle.file_laws.specs.Layout.{recordsOf, directoryOf}
-
-abbrev pub Bytes : List ℕ → Type 0
-Bytes s = (i : ℕ) → getD s i 0 < 256
-
-pub record Proper (e : Entry) : Type 0 where
-  pub known : lengthOf (e .kind) ≡ 0 → ⊥
-  pub small : e .size < 65536
+pub use Rattle.file_laws.proofs.Records.{Bytes, Proper}
+use Rattle.file_laws.proofs.Records.{record-long, seam, kind-seam, entry-seam, drop-next, drop-record, entry-proper}
 
 abbrev pub AllProper : List Entry → Type 0
 AllProper [] = Unit {0}
 AllProper (e ∷ es) = Proper e × AllProper es
-
-four-of : (a b : Bool) → (cond {A = ℕ} a 4 (cond b 4 0) ≡ 0 → ⊥) → 4 ≡ cond {A = ℕ} a 4 (cond b 4 0)
-four-of true b h = refl
-four-of false true h = refl
-four-of false false h = absurd (h refl)
-
-pub length-four : (k : ℕ) → (lengthOf k ≡ 0 → ⊥) → 4 ≡ lengthOf k
-unfolding lengthOf
-length-four k h = four-of (eqb k 1) (eqb k 2) h
-
-pub record-long : (e : Entry) → Proper e → length (recordBytes e) ≡ lengthOf (e .kind)
-unfolding recordBytes
-record-long e p = length-four (e .kind) (p .known)
 
 pub records-long : (es : List Entry) → AllProper es → length (recordsOf es) ≡ bytesIn es
 unfolding recordsOf bytesIn
@@ -66,20 +46,6 @@ pub proper-append : (xs ys : List Entry) → AllProper xs → AllProper ys → A
 proper-append [] ys a b = b
 proper-append (x ∷ xs) ys a b = (a .0, proper-append xs ys (a .1) b)
 
-seam : (xs ys : List ℕ) → getD (xs ++ ys) (length xs) 0 ≡ getD ys 0 0
-seam xs ys = let e : length xs ≡ length xs + 0 = omega arith in ap (λ (n : ℕ). getD (xs ++ ys) n 0) e ∙ getD-append-add xs ys 0 0
-
-pub entry-seam : (xs : List ℕ) (e : Entry) (t : List ℕ) → e ≡ entryAt (xs ++ (recordBytes e ++ t)) (length xs)
-unfolding entryAt recordBytes
-entry-seam xs e t =
-    let r : List ℕ = e .kind ∷ e .number ∷ e .size % 256 ∷ e .size / 256 ∷ t in
-    let q : e .size % 256 + 256 * (e .size / 256) ≡ e .size = omega arith in
-    rw (seam xs r, getD-append-add xs r 1 0, getD-append-add xs r 2 0, getD-append-add xs r 3 0, q)
-
-kind-seam : (xs : List ℕ) (e : Entry) (t : List ℕ) → getD (xs ++ (recordBytes e ++ t)) (length xs) 0 ≡ e .kind
-unfolding recordBytes
-kind-seam xs e t = seam xs _
-
 length-zero : 0 ≡ lengthOf 0
 unfolding lengthOf
 length-zero = refl
@@ -101,30 +67,14 @@ read-back xs (e ∷ es) t a h z =
     let u = recordsOf es ++ t in
     let n = lengthOf (e .kind) in
     let s = xs ++ (r ++ u) in
-    let st : n ≡ stepAt s (length xs) = step-in s (length xs) n (ap lengthOf (sym (kind-seam xs e u))) (omega arith) in
-    let m : entriesFrom (length xs) s ≡ e ∷ entriesFrom (length xs + n) s = more s (length xs) n e st (a .0 .known) (entry-seam xs e u) in
+    let st : n ≡ stepAt s (length xs) = step-in s (length xs) n (ap lengthOf (sym (kind-seam xs e u (a .0)))) (omega arith) in
+    let m : entriesFrom (length xs) s ≡ e ∷ entriesFrom (length xs + n) s = more s (length xs) n e st (a .0 .known) (entry-seam xs e u (a .0)) in
     let l : length (xs ++ r) ≡ length xs + n = length-append xs r ∙ ap (λ (k : ℕ). length xs + k) (record-long e (a .0)) in
     let i = read-back (xs ++ r) es t (a .1) (omega (arith, l)) (λ k. z (omega (arith, l))) in
     let i' : entriesFrom (length xs + n) s ≡ es = rw (← l, ← append-assoc xs r u) i in
     rw append-assoc (m ∙ ap (λ (x : List Entry). e ∷ x) i')
 
 -- Now from the bytes to the records.
-
-drop-next : (s : List ℕ) (i j : ℕ) → j ≡ i + 1 → i < length s → drop i s ≡ getD s i 0 ∷ drop j s
-drop-next s i j e h = rw (e, add-one) (drop-cons s i 0 h)
-
-drop-record : (s : List ℕ) (p : ℕ) → Bytes s → p + 4 ≤ length s → drop p s ≡ recordBytes (entryAt s p) ++ drop (p + 4) s
-unfolding recordBytes entryAt
-drop-record s p b h =
-    let lo = getD s (p + 2) 0 in
-    let hi = getD s (p + 3) 0 in
-    let x : (lo + 256 * hi) % 256 ≡ lo = omega (arith, b (p + 2)) in
-    let y : (lo + 256 * hi) / 256 ≡ hi = omega (arith, b (p + 2)) in
-    rw (x, y)
-    (drop-next s p (p + 1) refl (omega arith) ∙ ap (λ (l : List ℕ). getD s p 0 ∷ l)
-    (drop-next s (p + 1) (p + 2) (omega arith) (omega arith) ∙ ap (λ (l : List ℕ). getD s (p + 1) 0 ∷ l)
-    (drop-next s (p + 2) (p + 3) (omega arith) (omega arith) ∙ ap (λ (l : List ℕ). lo ∷ l)
-    (drop-next s (p + 3) (p + 4) (omega arith) (omega arith)))))
 
 -- the records es are read from byte p on
 pub record Form (s : List ℕ) (p : ℕ) (es : List Entry) : Type 0 where
@@ -136,21 +86,17 @@ form-none : (s : List ℕ) (p : ℕ) → Form s p []
 unfolding recordsOf bytesIn
 form-none s p = let e : p ≡ p + 0 = omega arith in record { written = ap (λ (n : ℕ). drop n s) e; proper = tt; fits = λ h. omega arith }
 
-entry-proper : (s : List ℕ) (p : ℕ) → Bytes s → (stepAt s p ≡ 0 → ⊥) → Proper (entryAt s p)
-unfolding entryAt
-entry-proper s p b h = let w = whole s p h in record { known = λ z. h (w .same ∙ z); small = omega (arith, b (p + 2), b (p + 3)) }
-
 form-more : (s : List ℕ) (p : ℕ) (es : List Entry) → Bytes s → 256 ≤ length s → (stepAt s p ≡ 0 → ⊥) → Form s (p + stepAt s p) es → Form s p (entryAt s p ∷ es)
-unfolding recordsOf bytesIn entryAt
+unfolding recordsOf bytesIn
 form-more s p es b l h f =
     let w = whole s p h in
-    let four : 4 ≡ stepAt s p = length-four (getD s p 0) (λ z. h (w .same ∙ z)) ∙ sym (w .same) in
-    let d : drop p s ≡ recordBytes (entryAt s p) ++ drop (p + stepAt s p) s = rw (← four) (drop-record s p b (omega (arith, w .fits))) in
-    let e : p + stepAt s p + bytesIn es ≡ p + (lengthOf (getD s p 0) + bytesIn es) = omega (arith, w .same) in
+    let d = drop-record s p (stepAt s p) b (w .same) (w .least) (omega (arith, w .fits)) in
+    let q : lengthOf (entryAt s p .kind) ≡ stepAt s p = rw (entry-kind s p) (sym (w .same)) in
+    let e : p + stepAt s p + bytesIn es ≡ p + (lengthOf (entryAt s p .kind) + bytesIn es) = omega arith in
     record {
       written = d ∙ (ap (λ (x : List ℕ). recordBytes (entryAt s p) ++ x) (f .written ∙ ap (λ (n : ℕ). recordsOf es ++ drop n s) e) ∙ sym (append-assoc (recordBytes (entryAt s p)) (recordsOf es) _));
-      proper = (entry-proper s p b h, f .proper);
-      fits = λ k. omega (arith, f .fits (w .fits), w .same);
+      proper = (entry-proper s p b (λ z. h (w .same ∙ z)), f .proper);
+      fits = λ k. omega (arith, f .fits (w .fits));
     }
 
 pub formed : (s : List ℕ) → Bytes s → 256 ≤ length s → (p : ℕ) → Form s p (entriesFrom p s)
@@ -178,7 +124,7 @@ zeros-are (suc n) p s h =
 
 pub record Valid (s : List ℕ) : Type 0 where
   pub ends : zerosFrom (bytesIn (entries s)) s ≡ true
-  pub few : length (entries s) ≤ 63
+  pub within : bytesIn (entries s) ≤ maxRecords
   pub rules : keepRules (entries s) ≡ true
   pub room : 256 + sizesIn (entries s) ≤ length s
 
@@ -189,7 +135,7 @@ valid s h =
     let a = and-both _ _ h in
     let b = and-both _ _ (a .0) in
     let c = and-both _ _ (b .0) in
-    record { ends = c .0; few = leb-true (length es) 63 (c .1); rules = b .1; room = leb-true (256 + sizesIn es) (length s) (a .1) }
+    record { ends = c .0; within = leb-true (bytesIn es) maxRecords (c .1); rules = b .1; room = leb-true (256 + sizesIn es) (length s) (a .1) }
 
 -- a valid store is what its records say, and the file area
 pub canonical : (s : List ℕ) → Bytes s → 256 ≤ length s → validOf s ≡ true → s ≡ directoryOf (entries s) ++ drop 256 s
@@ -221,8 +167,9 @@ zeros-written es area a =
     zeros-are (256 - bytesIn es) (bytesIn es) _ (λ i h.
     rw (append-assoc, ← records-long es a, getD-append-add (recordsOf es), List·getD-append (replicate (256 - length (recordsOf es)) 0) area 0 i (rw (length-replicate {A = ℕ} (256 - length (recordsOf es)) 0, records-long es a) h)) (getD-replicate (256 - length (recordsOf es)) i 0 0 (rw (records-long es a) h)))
 
-pub valid-written : (es : List Entry) (area : List ℕ) → AllProper es → bytesIn es ≤ 256 → length es ≤ 63 → keepRules es ≡ true → sizesIn es ≤ length area → validOf (directoryOf es ++ area) ≡ true
+pub valid-written : (es : List Entry) (area : List ℕ) → AllProper es → bytesIn es ≤ maxRecords → keepRules es ≡ true → sizesIn es ≤ length area → validOf (directoryOf es ++ area) ≡ true
 unfolding validOf
-valid-written es area a h f r z =
-    let l : 256 + sizesIn es ≤ length (directoryOf es ++ area) = omega (arith, length-append (directoryOf es) area, directory-long es a h) in
-    rw (entries-written es area a h, zeros-written es area a, le-leb (length es) 63 f, r, le-leb (256 + sizesIn es) (length (directoryOf es ++ area)) l)
+valid-written es area a h r z =
+    let k : bytesIn es ≤ 256 = omega arith in
+    let l : 256 + sizesIn es ≤ length (directoryOf es ++ area) = omega (arith, length-append (directoryOf es) area, directory-long es a k) in
+    rw (entries-written es area a k, zeros-written es area a, le-leb (bytesIn es) maxRecords h, r, le-leb (256 + sizesIn es) (length (directoryOf es ++ area)) l)

@@ -36,7 +36,7 @@ foundBytes Nothing s = []
 unfoldable pub withRecord : List ℕ → Entry → List ℕ
 withRecord s e = directoryOf (entries s ++ (e ∷ [])) ++ drop 256 s
 
--- the entries before the one of this kind and number, those after it, and all but it
+-- the entries before the one of this sort and number, those after it, and all but it
 unfoldable pub before : List Entry → ℕ → ℕ → List Entry
 before [] k n = []
 before (e ∷ es) k n = cond (isFile e k n) [] (e ∷ before es k n)

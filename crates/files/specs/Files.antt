@@ -3,14 +3,14 @@
 -- Assumes nothing.
 use mathlib.Core.List.{List, [], _∷_}
 use mathlib.Core.Bool.{Bool, true, false, cond, _&&_}
-use Prim.Native.Nat.{ℕ, _+_, _-_, _/_, _%_, min}
+use Prim.Native.Nat.{ℕ, _+_, _-_, _/_, _%_, _^_, min}
 use lib.Dec.{leb}
-use lib.ListN.{length, set, replicate}
+use lib.ListN.{length, getD, set, replicate}
 use lib.Seq.{paste}
 use Rattle.directory.specs.declared.Entry.{Entry}
 use Rattle.directory.specs.declared.Found.{Found}
 use Rattle.directory.specs.declared.Found.the-variants.{At, Nothing}
-use Rattle.directory.specs.Directory.{lengthOf, entries, bytesIn, sizesIn, findOf}
+use Rattle.directory.specs.Directory.{isNewer, lengthOf, entries, bytesIn, sizesIn, findOf}
 use Rattle.files.specs.Moves.{closed}
 
 -- the room of the file area that no file uses
@@ -20,14 +20,20 @@ unusedOf s = length s - (256 + sizesIn (entries s))
 abbrev pub entry : ℕ → ℕ → ℕ → Entry
 entry k n z = record { kind = k; number = n; size = z }
 
--- a record's bytes
+-- byte number i of a number, the lowest first
+abbrev pub byteOf : ℕ → ℕ → ℕ
+byteOf n i = n / 256 ^ i % 256
+
+-- a record's bytes, by its kind
 unfoldable pub recordBytes : Entry → List ℕ
-recordBytes e = e .kind ∷ e .number ∷ e .size % 256 ∷ e .size / 256 ∷ []
+recordBytes e =
+    cond (isNewer (e .kind)) (e .kind ∷ byteOf (e .number) 0 ∷ byteOf (e .number) 1 ∷ byteOf (e .size) 0 ∷ byteOf (e .size) 1 ∷ byteOf (e .size) 2 ∷ byteOf (e .size) 3 ∷ [])
+    (e .kind ∷ byteOf (e .number) 0 ∷ byteOf (e .size) 0 ∷ byteOf (e .size) 1 ∷ [])
 
 -- behind the last record, if the directory has room for it
 unfoldable pub appended : List ℕ → Entry → List ℕ
 appended s e =
-    cond (leb 256 (length s) && leb (bytesIn (entries s) + 4) 256) (paste s (bytesIn (entries s)) (recordBytes e) 4) s
+    cond (leb 256 (length s) && leb (bytesIn (entries s) + lengthOf (e .kind)) 256) (paste s (bytesIn (entries s)) (recordBytes e) (lengthOf (e .kind))) s
 
 -- whether there is such a file, all files lying in the store
 abbrev pub isThere : Found → Bool
@@ -37,14 +43,14 @@ isThere Nothing = false
 unfoldable pub deletes : List ℕ → ℕ → ℕ → Bool
 deletes s k n = leb (256 + sizesIn (entries s)) (length s) && isThere (findOf s k n)
 
--- the record and its file are closed over
-abbrev pub deletedAt : Found → ℕ → ℕ → ℕ → List ℕ → List ℕ
-deletedAt (At p a z) n end used s = closed s p n end a (a + z) (256 + used)
-deletedAt Nothing n end used s = s
+-- the record, by its own length, and its file are closed over
+abbrev pub deletedAt : Found → ℕ → ℕ → List ℕ → List ℕ
+deletedAt (At p a z) end used s = closed s p (lengthOf (getD s p 0)) end a (a + z) (256 + used)
+deletedAt Nothing end used s = s
 
 unfoldable pub deleted : List ℕ → ℕ → ℕ → List ℕ
 deleted s k n =
-    cond (leb (256 + sizesIn (entries s)) (length s)) (deletedAt (findOf s k n) (lengthOf k) (bytesIn (entries s)) (sizesIn (entries s)) s) s
+    cond (leb (256 + sizesIn (entries s)) (length s)) (deletedAt (findOf s k n) (bytesIn (entries s)) (sizesIn (entries s)) s) s
 
 -- the directory is zeros; the file area stays
 unfoldable pub purged : List ℕ → List ℕ

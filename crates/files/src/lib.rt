@@ -1,16 +1,21 @@
 // Files put into the store and taken out. Any bytes may be lent, and any number of them.
 use directory::DIRECTORY;
 use directory::Found;
+use directory::NEWER_LENGTH;
+use directory::OLDER_LENGTH;
+use directory::byte_at;
 use directory::find;
 use directory::least;
 use directory::record_length;
 use directory::tally;
 ghost use mathlib.Core.Path.{_≡_};
+ghost use mathlib.Core.Bool.{true, false};
 ghost use Prim.Native.Nat.{_+_, _≤_};
 ghost use lib.ListN.{length, drop, replicate};
 ghost use lib.Seq.{paste};
 ghost use Rattle.files.specs.Moves.{closed};
-ghost use Rattle.files.specs.Files.{unusedOf, entry, appended, deletes, deleted, purged, storedByte};
+ghost use Rattle.directory.specs.Directory.{isNewer, lengthOf};
+ghost use Rattle.files.specs.Files.{unusedOf, entry, recordBytes, appended, deletes, deleted, purged, storedByte};
 
 // The room of the file area that no file uses.
 pub fn unused(store: &[u8]) -> usize
@@ -45,18 +50,53 @@ fn zero(s: &mut [u8], at: usize, n: usize)
     }
 }
 
+// A record of the older edition: a number of one byte, a size of two.
+fn write_older(store: &mut [u8], p: usize, kind: u8, number: u16, size: u32)
+    requires { ⌜ (p + 4 ≤ length (now store)) × (isNewer kind ≡ false) ⌝ }
+    ensures { λ _. ⌜ now (store .exit) ≡ paste (now (store .entry)) p (recordBytes (entry kind number size)) 4 ⌝ }
+{
+    store[p] = kind;
+    store[p + 1] = (number % 256) as u8;
+    store[p + 2] = (size % 256) as u8;
+    store[p + 3] = (size / 256 % 256) as u8;
+}
+
+// A record of the newer edition: a number of two bytes, a size of four.
+fn write_newer(store: &mut [u8], p: usize, kind: u8, number: u16, size: u32)
+    requires { ⌜ (p + 7 ≤ length (now store)) × (isNewer kind ≡ true) ⌝ }
+    ensures { λ _. ⌜ now (store .exit) ≡ paste (now (store .entry)) p (recordBytes (entry kind number size)) 7 ⌝ }
+{
+    store[p] = kind;
+    store[p + 1] = (number % 256) as u8;
+    store[p + 2] = (number / 256 % 256) as u8;
+    store[p + 3] = (size % 256) as u8;
+    store[p + 4] = (size / 256 % 256) as u8;
+    store[p + 5] = (size / 65536 % 256) as u8;
+    store[p + 6] = (size / 16777216 % 256) as u8;
+}
+
+// The n bytes of a record; none where its kind is not known.
+fn write_record(store: &mut [u8], p: usize, n: usize, kind: u8, number: u16, size: u32)
+    requires { ⌜ (n ≡ lengthOf kind) × (p + n ≤ length (now store)) ⌝ }
+    ensures { λ _. ⌜ now (store .exit) ≡ paste (now (store .entry)) p (recordBytes (entry kind number size)) n ⌝ }
+{
+    if n == NEWER_LENGTH {
+        write_newer(store, p, kind, number, size);
+    } else if n == OLDER_LENGTH {
+        write_older(store, p, kind, number, size);
+    }
+}
+
 // The record of a new file behind the last, if the directory has room for it.
-pub fn append(store: &mut [u8], kind: u8, number: u8, size: u16)
+pub fn append(store: &mut [u8], kind: u8, number: u16, size: u32)
     ensures { λ _. ⌜ now (store .exit) ≡ appended (now (store .entry)) (entry kind number size) ⌝ }
 {
     let t = tally(store);
     let p = t.end;
+    let n = record_length(kind);
     if DIRECTORY <= store.len() {
-        if p + 4 <= DIRECTORY {
-            store[p] = kind;
-            store[p + 1] = number;
-            store[p + 2] = (size % 256) as u8;
-            store[p + 3] = (size / 256) as u8;
+        if p + n <= DIRECTORY {
+            write_record(store, p, n, kind, number, size);
         }
     }
 }
@@ -72,16 +112,16 @@ fn close(store: &mut [u8], at: usize, n: usize, end: usize, start: usize, next: 
     zero(store, end - n, n);
 }
 
-// The record and the file of this kind and number taken out, later ones moved to close the gap; the answer is whether there was one.
-pub fn delete(store: &mut [u8], kind: u8, number: u8) -> bool
-    ensures { λ r. ⌜ (r ≡ deletes (now (store .entry)) kind number) × (now (store .exit) ≡ deleted (now (store .entry)) kind number) ⌝ }
+// The record and the file of this sort and number taken out, later ones moved to close the gap; the answer is whether there was one.
+pub fn delete(store: &mut [u8], sort: u8, number: u16) -> bool
+    ensures { λ r. ⌜ (r ≡ deletes (now (store .entry)) sort number) × (now (store .exit) ≡ deleted (now (store .entry)) sort number) ⌝ }
 {
     let t = tally(store);
     let top = DIRECTORY + t.used;
     if store.len() < top {
         return false;
     }
-    let found = find(store, kind, number);
+    let found = find(store, sort, number);
     let Found::At {
         record,
         start,
@@ -90,7 +130,7 @@ pub fn delete(store: &mut [u8], kind: u8, number: u8) -> bool
     else {
         return false;
     };
-    let n = record_length(kind);
+    let n = record_length(byte_at(store, record));
     close(store, record, n, t.end, start, start + size, top);
     true
 }

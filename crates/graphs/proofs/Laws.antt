@@ -14,6 +14,7 @@ use Rattle.bar_graph.specs.Bars.{writeOf, writtenBar}
 use Rattle.strip_chart.specs.Strips.{shiftedStrip}
 use Rattle.state.specs.declared.BarSlot.{BarSlot}
 use Rattle.state.specs.declared.Strip.{Strip}
+use Rattle.state.specs.declared.Config.{Config}
 use Rattle.state.specs.declared.Port.{Port}
 use Rattle.state.specs.declared.Panel.{Panel}
 use Rattle.state.specs.State.{state, barOf, barSlot, strip, barAt, stripAt, withBars, withStrips}
@@ -44,50 +45,50 @@ apart-rows x1 y1 x2 y2 a = rw (lt-ltb x1 x2 a)
 
 -- ---- set up
 
-module _ (g s : List ℕ) (pt : Port) (q : Panel) (h n i k x1 y1 x2 y2 : ℕ) (number : i ≡ n) where
-  pub bar-19 : 16 ≤ i → setUpBar (world g s (state h pt q)) n k x1 y1 x2 y2 ≡ refused 19 []
+module _ (g s : List ℕ) (pt : Port) (q : Panel) (c : Config) (n i k x1 y1 x2 y2 : ℕ) (number : i ≡ n) where
+  pub bar-19 : 16 ≤ i → setUpBar (world g s (state c pt q)) n k x1 y1 x2 y2 ≡ refused 19 []
   unfolding setUpBar
   bar-19 a = rw (le-leb 16 n (omega arith))
 
-  pub bar-20 : i < 16 → 4 ≤ k → setUpBar (world g s (state h pt q)) n k x1 y1 x2 y2 ≡ refused 20 []
+  pub bar-20 : i < 16 → 4 ≤ k → setUpBar (world g s (state c pt q)) n k x1 y1 x2 y2 ≡ refused 20 []
   unfolding setUpBar
   bar-20 a b = rw (lt-leb 16 n (omega arith), le-leb 4 k b)
 
-  pub bar-17 : (t : Bool) → i < 16 → k < 4 → t ≡ inBoundsOf h x1 y1 x2 y2 → not t ≡ true → setUpBar (world g s (state h pt q)) n k x1 y1 x2 y2 ≡ refused 17 []
+  pub bar-17 : (t : Bool) → i < 16 → k < 4 → t ≡ inBoundsOf (c .height) x1 y1 x2 y2 → not t ≡ true → setUpBar (world g s (state c pt q)) n k x1 y1 x2 y2 ≡ refused 17 []
   unfolding setUpBar
   bar-17 t a b d e = rw (lt-leb 16 n (omega arith), lt-leb 4 k b, ← d, e)
 
-  pub bar-18 : (t u : Bool) → i < 16 → k < 4 → t ≡ inBoundsOf h x1 y1 x2 y2 → not t ≡ false → u ≡ apart x1 y1 x2 y2 → not u ≡ true
-      → setUpBar (world g s (state h pt q)) n k x1 y1 x2 y2 ≡ refused 18 []
+  pub bar-18 : (t u : Bool) → i < 16 → k < 4 → t ≡ inBoundsOf (c .height) x1 y1 x2 y2 → not t ≡ false → u ≡ apart x1 y1 x2 y2 → not u ≡ true
+      → setUpBar (world g s (state c pt q)) n k x1 y1 x2 y2 ≡ refused 18 []
   unfolding setUpBar
   bar-18 t u a b d e f o = rw (lt-leb 16 n (omega arith), lt-leb 4 k b, ← d, e, ← f, o)
 
-  pub bar-done : (t u : Bool) → i < 16 → k < 4 → t ≡ inBoundsOf h x1 y1 x2 y2 → not t ≡ false → u ≡ apart x1 y1 x2 y2 → not u ≡ false
-      → setUpBar (world g s (state h pt q)) n k x1 y1 x2 y2 ≡ quietly (world g s (state h pt (withBars q (set (q .bars) n (barSlot true (barOf k x1 y1 x2 y2 0))))))
+  pub bar-done : (t u : Bool) → i < 16 → k < 4 → t ≡ inBoundsOf (c .height) x1 y1 x2 y2 → not t ≡ false → u ≡ apart x1 y1 x2 y2 → not u ≡ false
+      → setUpBar (world g s (state c pt q)) n k x1 y1 x2 y2 ≡ quietly (world g s (state c pt (withBars q (set (q .bars) n (barSlot true (barOf k x1 y1 x2 y2 0))))))
   unfolding setUpBar
   bar-done t u a b d e f o = rw (lt-leb 16 n (omega arith), lt-leb 4 k b, ← d, e, ← f, o)
 
-  pub strip-19 : 8 ≤ i → setUpStrip (world g s (state h pt q)) n x1 y1 x2 y2 ≡ refused 19 []
+  pub strip-19 : 8 ≤ i → setUpStrip (world g s (state c pt q)) n x1 y1 x2 y2 ≡ refused 19 []
   unfolding setUpStrip
   strip-19 a = rw (le-leb 8 n (omega arith))
 
-  pub strip-17 : (t : Bool) → i < 8 → t ≡ inBoundsOf h x1 y1 x2 y2 → not t ≡ true → setUpStrip (world g s (state h pt q)) n x1 y1 x2 y2 ≡ refused 17 []
+  pub strip-17 : (t : Bool) → i < 8 → t ≡ inBoundsOf (c .height) x1 y1 x2 y2 → not t ≡ true → setUpStrip (world g s (state c pt q)) n x1 y1 x2 y2 ≡ refused 17 []
   unfolding setUpStrip
   strip-17 t a d e = rw (lt-leb 8 n (omega arith), ← d, e)
 
-  pub strip-18 : (t u : Bool) → i < 8 → t ≡ inBoundsOf h x1 y1 x2 y2 → not t ≡ false → u ≡ apart x1 y1 x2 y2 → not u ≡ true
-      → setUpStrip (world g s (state h pt q)) n x1 y1 x2 y2 ≡ refused 18 []
+  pub strip-18 : (t u : Bool) → i < 8 → t ≡ inBoundsOf (c .height) x1 y1 x2 y2 → not t ≡ false → u ≡ apart x1 y1 x2 y2 → not u ≡ true
+      → setUpStrip (world g s (state c pt q)) n x1 y1 x2 y2 ≡ refused 18 []
   unfolding setUpStrip
   strip-18 t u a d e f o = rw (lt-leb 8 n (omega arith), ← d, e, ← f, o)
 
-  pub strip-done : (t u : Bool) → i < 8 → t ≡ inBoundsOf h x1 y1 x2 y2 → not t ≡ false → u ≡ apart x1 y1 x2 y2 → not u ≡ false
-      → setUpStrip (world g s (state h pt q)) n x1 y1 x2 y2 ≡ quietly (world g s (state h pt (withStrips q (set (q .strips) n (strip true x1 y1 x2 y2)))))
+  pub strip-done : (t u : Bool) → i < 8 → t ≡ inBoundsOf (c .height) x1 y1 x2 y2 → not t ≡ false → u ≡ apart x1 y1 x2 y2 → not u ≡ false
+      → setUpStrip (world g s (state c pt q)) n x1 y1 x2 y2 ≡ quietly (world g s (state c pt (withStrips q (set (q .strips) n (strip true x1 y1 x2 y2)))))
   unfolding setUpStrip
   strip-done t u a d e f o = rw (lt-leb 8 n (omega arith), ← d, e, ← f, o)
 
 -- ---- writes and shifts
 
-module _ (h : ℕ) (g s : List ℕ) (pt : Port) (q : Panel) (n i v : ℕ) (number : i ≡ n) where
+module _ (h : Config) (g s : List ℕ) (pt : Port) (q : Panel) (n i v : ℕ) (number : i ≡ n) where
   pub write-19 : 16 ≤ i → writeBar (world g s (state h pt q)) n v ≡ refused 19 []
   unfolding writeBar
   write-19 a = rw (le-leb 16 n (omega arith))
@@ -102,7 +103,7 @@ module _ (h : ℕ) (g s : List ℕ) (pt : Port) (q : Panel) (n i v : ℕ) (numbe
     unfolding writeBar
     write-done g' w e d f = rw (lt-leb 16 n (omega arith), ← there, e, d, f)
 
-module _ (h : ℕ) (g s : List ℕ) (pt : Port) (q : Panel) (b i : ℕ) (number : i ≡ b % 128) where
+module _ (h : Config) (g s : List ℕ) (pt : Port) (q : Panel) (b i : ℕ) (number : i ≡ b % 128) where
   pub shift-19 : 8 ≤ i → shiftStrip (world g s (state h pt q)) b ≡ refused 19 []
   unfolding shiftStrip
   shift-19 a = rw (le-leb 8 (b % 128) (omega (arith, number)))

@@ -9,6 +9,7 @@ use canvas::is_black;
 use display::display_feed;
 use display::display_start;
 use feed::STORE_MOST;
+use state::OLDER;
 ghost use Prim.Native.Nat.{_≤_};
 ghost use lib.ListN.{length};
 
@@ -223,6 +224,7 @@ fn list(framebuffer: &mut [u8], height: u8) {
     let mut queue = [0u8; queue::RECORD];
     display_start(
         height as u32,
+        OLDER as u32,
         framebuffer,
         &mut store,
         &mut state,

@@ -1,14 +1,15 @@
--- What a command function promises: whatever the height that it is not told and the memory that it is not lent, they stay, and the port, the bytes sent and
--- the memory that it is lent become what its rule says.
+-- What a command function promises: whatever was chosen at start that it is not told and the memory that it is not lent, they stay, and the port, the bytes sent
+-- and the memory that it is lent become what its rule says.
 -- Assumes nothing.
 use mathlib.Core.Path.{_≡_}
 use mathlib.Core.List.{List}
 use Prim.Native.Nat.{ℕ}
 use Rattle.state.specs.declared.Port.{Port}
-use Rattle.state.specs.State.{state}
+use Rattle.state.specs.declared.Config.{Config}
+use Rattle.state.specs.State.{config, state}
 use Rattle.record.specs.Reading.{panelOf}
 use Rattle.panel.specs.Revised.{revised}
-use Rattle.rules.specs.World.{World, world, height, port, panel, Outcome as Ruled}
+use Rattle.rules.specs.World.{World, world, port, panel, Outcome as Ruled}
 use Rattle.rules.specs.Step.{after, sent}
 use Rattle.outcome.specs.declared.Outcome.{Outcome}
 use Rattle.outcome.specs.Outcome.{sentBy}
@@ -29,43 +30,47 @@ abbrev pub left : Loan → List ℕ → List ℕ
 left unlent x = x
 left (lent a b) x = b
 
--- a function is told the state's height, or it has no use for it
+-- of what was chosen at start a function is told the height, the edition or both, or it has no use for them
 pub data Told : Type 0 where
   untold : Told
   told : ℕ → Told
+  told-edition : ℕ → Told
+  told-both : Config → Told
 
--- with height h where it is not told
-abbrev pub heightBy : Told → ℕ → ℕ
-heightBy untold h = h
-heightBy (told k) h = k
+-- with c for what it is not told
+abbrev pub configBy : Told → Config → Config
+configBy untold c = c
+configBy (told h) c = config h (c .edition)
+configBy (told-edition e) c = config (c .height) e
+configBy (told-both d) c = d
 
 -- ---- what comes of it
 
--- height, framebuffer, store, the panel's bytes, and the port
+-- what was chosen, framebuffer, store, the panel's bytes, and the port
 pub record Held : Type 0 where
-  pub height : ℕ
+  pub config : Config
   pub framebuffer : List ℕ
   pub store : List ℕ
   pub panel-bytes : List ℕ
   pub port : Port
 
-abbrev pub held : ℕ → List ℕ → List ℕ → List ℕ → Port → Held
-held h g s p t = record { height = h; framebuffer = g; store = s; panel-bytes = p; port = t }
+abbrev pub held : Config → List ℕ → List ℕ → List ℕ → Port → Held
+held c g s p t = record { config = c; framebuffer = g; store = s; panel-bytes = p; port = t }
 
 abbrev pub worldOf : Held → World
-worldOf m = world (m .framebuffer) (m .store) (state (m .height) (m .port) (panelOf (m .panel-bytes)))
+worldOf m = world (m .framebuffer) (m .store) (state (m .config) (m .port) (panelOf (m .panel-bytes)))
 
 -- a world written over the panel's bytes
 abbrev pub heldBy : List ℕ → World → Held
-heldBy p w = held (height w) (w .framebuffer) (w .store) (revised p (panel w)) (port w)
+heldBy p w = held (w .state .config) (w .framebuffer) (w .store) (revised p (panel w)) (port w)
 
 -- by a rule's outcome from m to n, sending l
 pub record Came (m : Held) (o : Ruled) (n : Held) (l : List ℕ) : Type 0 where
   pub next : n ≡ heldBy (m .panel-bytes) (after (worldOf m) o)
   pub sends : l ≡ sent o
 
--- THE PROMISE of a function that is told the height by t, is handed a port and is lent the framebuffer by G, the store by S and the panel's bytes by P
+-- THE PROMISE of a function that is told what was chosen by t, is handed a port and is lent the framebuffer by G, the store by S and the panel's bytes by P
 pub record Obeys (t : Told) (rule : World → Ruled) (pt : Port) (G S P : Loan) (r : Outcome) : Type 0 where
-  pub came : (h : ℕ) (g s p : List ℕ)
-      → Came (held (heightBy t h) (found G g) (found S s) (found P p) pt) (rule (worldOf (held (heightBy t h) (found G g) (found S s) (found P p) pt)))
-      (held (heightBy t h) (left G g) (left S s) (left P p) (r .port)) (sentBy (r .reply))
+  pub came : (c : Config) (g s p : List ℕ)
+      → Came (held (configBy t c) (found G g) (found S s) (found P p) pt) (rule (worldOf (held (configBy t c) (found G g) (found S s) (found P p) pt)))
+      (held (configBy t c) (left G g) (left S s) (left P p) (r .port)) (sentBy (r .reply))

@@ -8,7 +8,7 @@ use lib.ListN.{take, drop}
 use borrow.Author.Tests.{lt-ltb, le-ltb}
 use Rattle.directory.specs.declared.Found.{Found}
 use Rattle.directory.specs.declared.Found.the-variants.{At, Nothing}
-use Rattle.directory.specs.Directory.{findOf}
+use Rattle.directory.specs.Directory.{maxNumber, findOf}
 use Rattle.fonts.specs.declared.Check.{Check}
 use Rattle.fonts.specs.declared.Check.the-variants.{Good, Malformed}
 use Rattle.fonts.specs.Checks.{checkOf}
@@ -32,14 +32,18 @@ module _ (g s : List ℕ) (st : State) (f : List ℕ) (x y : ℕ) (c : Check) (c
   unfolding bitmapIn
   bitmap-done g' bits v h e d dv dh o = rw (good-is c (isBitmap f) checked e, o, d, dv, dh)
 
-pub show-22 : (w : World) (n x y : ℕ) (f : Found) → f ≡ findOf (w .store) 2 n → f ≡ Nothing → showBitmap w n x y ≡ refused 22 []
-unfolding showBitmap bitmapAt
-show-22 w n x y f e h = rw (← e, h)
+pub show-19 : (w : World) (n x y : ℕ) → maxNumber < n → showBitmap w n x y ≡ refused 19 []
+unfolding showBitmap
+show-19 w n x y m = rw (lt-ltb maxNumber n m)
 
-pub show-found : (w : World) (n x y p a z : ℕ) (f : Found) (l : List ℕ) → f ≡ findOf (w .store) 2 n → f ≡ At p a z → l ≡ take z (drop a (w .store))
+pub show-22 : (w : World) (n x y : ℕ) (f : Found) → n ≤ maxNumber → f ≡ findOf (w .store) 2 n → f ≡ Nothing → showBitmap w n x y ≡ refused 22 []
+unfolding showBitmap bitmapAt
+show-22 w n x y f m e h = rw (le-ltb maxNumber n m, ← e, h)
+
+pub show-found : (w : World) (n x y p a z : ℕ) (f : Found) (l : List ℕ) → n ≤ maxNumber → f ≡ findOf (w .store) 2 n → f ≡ At p a z → l ≡ take z (drop a (w .store))
     → showBitmap w n x y ≡ bitmapIn w l x y
 unfolding showBitmap bitmapAt
-show-found w n x y p a z f l e h d = rw (← e, h, d)
+show-found w n x y p a z f l m e h d = rw (le-ltb maxNumber n m, ← e, h, d)
 
 -- ---- data in line
 

@@ -3,6 +3,7 @@ use bitmap::paint_inline;
 use bitmap::paint_packed;
 use directory::BITMAP;
 use directory::Found;
+use directory::MAX_NUMBER;
 use directory::find;
 use directory::part;
 use directory::rest;
@@ -19,6 +20,7 @@ use outcome::refused;
 use refusals::CORNERS_OUT_OF_ORDER;
 use refusals::MALFORMED_FILE;
 use refusals::NO_SUCH_FILE;
+use refusals::NUMBER_OUT_OF_RANGE;
 use state::Phase;
 use state::Port;
 use state::inline_bytes;
@@ -49,12 +51,15 @@ pub fn show_bitmap(
     framebuffer: &mut [u8],
     store: &[u8],
     port: Port,
-    number: u8,
+    number: u16,
     x: u8,
     y: u8,
 ) -> Outcome
     ensures { λ r. ⌜ Obeys untold (λ w. showBitmap w number x y) port (lent (now (framebuffer .entry)) (now (framebuffer .exit))) (lent (now (store .entry)) (now (store .entry))) unlent r ⌝ }
 {
+    if number > MAX_NUMBER {
+        return refused(port, NUMBER_OUT_OF_RANGE);
+    }
     let found = find(store, BITMAP, number);
     let Found::At {
         record: _,

@@ -1,5 +1,5 @@
--- THE PROMISE OVER EVERY LIST OF CALLS of the exported functions, demand 3 among it: pieces with any reply room, arrivals, takes and refused
--- calls between, from a start or from any memory that passes the checks, whatever stands in the queue record.
+-- THE PROMISE OVER EVERY LIST OF CALLS of the exported functions, demand 3 among it: pieces and times with any reply room, arrivals, takes and
+-- refused calls between, from a start or from any memory that passes the checks, whatever stands in the queue record.
 -- Assumes nothing.
 use mathlib.Core.Path.{_≡_, _∙_, sym, ap, subst}
 use mathlib.Core.List.{List}
@@ -14,9 +14,10 @@ use Rattle.bar_ledger.specs.Claim.{ledgerAt, Agrees}
 use Rattle.bar_ledger.specs.Since.{SinceZero}
 use Rattle.bar_ledger.proofs.Since.{since-zero}
 use Rattle.queue.specs.Record.{Bytes}
+use Rattle.state.specs.declared.Config.{Config}
 use Rattle.state.specs.State.{barAt}
 use Rattle.rules.specs.World.{World, panel}
-use Rattle.rules.specs.Step.{step}
+use Rattle.rules.specs.Step.{Input, step}
 use Rattle.rules.specs.Calls.{run}
 use Rattle.rules.specs.Events.{view, event}
 use Rattle.calls.specs.Memory.{Memory, checked, loaded}
@@ -33,7 +34,7 @@ use Rattle.promises.proofs.Lists.{same}
 use Rattle.promises.proofs.Answers.{answered}
 
 -- bars whose rectangles lie on the framebuffer show every pixel
-module _ (w : World) (l : List ℕ) (g : Agrees view step event w l)
+module _ (w : World) (l : List Input) (g : Agrees view step event w l)
     (inside : (n i x y : ℕ) → rectangleOf (barAt (panel (run w (take n l))) i .bar) x y ≡ true → On (length (run w (take n l) .framebuffer)) x y) where
   shown : (n i : ℕ) → ledgerAt view step event w l n i .known ≡ true → ShowsWhole (ledgerAt view step event w l n i .bar) (run w (take n l) .framebuffer)
   shown n i e =
@@ -48,7 +49,7 @@ module _ (w : World) (l : List ℕ) (g : Agrees view step event w l)
       let t = take-length l in
       let q = run-along w (take (length l) l) in
       let b = g .same (length l) i ∙ ap (λ (v : World). barAt (panel v) i .bar) q in
-      subst (λ (m : List ℕ). ShowsWhole (barAt (panel (run w m)) i .bar) (run w m .framebuffer)) t
+      subst (λ (m : List Input). ShowsWhole (barAt (panel (run w m)) i .bar) (run w m .framebuffer)) t
       (subst (λ (c : Bar). ShowsWhole c (run w (take (length l) l) .framebuffer)) b (shown (length l) i (since-zero view step event w l i g z)))
 
 carried : (b : Board) (l : List Made) → MeetsAll b l → AnswersAll b l → Served b (callsOf l) → Promise b l
@@ -69,7 +70,7 @@ carried b l h a v =
       count = rw (s .board-same, s .consumed-same) (v .count);
       last = rw (s .board-same, s .consumed-same) (v .last);
       never-28 = rw (s .board-same) (v .never-28);
-      height = rw (s .board-same) (v .height);
+      config = rw (s .board-same) (v .config);
       again = rw (s .board-same) (v .again);
       line-again = rw (s .board-same) (v .line-again);
     }
@@ -79,10 +80,10 @@ promised m q l b e h i =
     let a = subst (λ (n : Memory). MeetsAll (board n q) l → AnswersAll (board n q) l) (saved-loaded m e) (λ j. answered (loaded m) q l (checked-kept m b e) j i) in
     carried (board m q) l h (a h) (calls-served m q (callsOf l) b e i)
 
-pub promised-from-start : (n : ℕ) (m : Memory) (q : List ℕ) (s : Started) (l : List Made) → s ≡ startOf n m q → Bytes (m .store) → startChecked n m q ≡ 0
+pub promised-from-start : (f : Config) (m : Memory) (q : List ℕ) (s : Started) (l : List Made) → s ≡ startOf f m q → Bytes (m .store) → startChecked f m q ≡ 0
     → MeetsAll (board (s .left) (s .queue)) l → BytesInAll (callsOf l) → Promise (board (s .left) (s .queue)) l
-promised-from-start n m q s l e b c h i =
-    let d : board (startOf n m q .left) (startOf n m q .queue) ≡ board (s .left) (s .queue) = ap (λ (x : Started). board (x .left) (x .queue)) (sym e) in
-    let t = start-left n m q c ∙ d in
-    let a = subst (λ (x : Board). MeetsAll x l → AnswersAll x l) t (λ j. answered (startWorld n (m .store)) (emptied q) l (start-kept n m q b c) j i) in
-    carried (board (s .left) (s .queue)) l h (a h) (subst (λ (x : Board). Served x (callsOf l)) d (started-served n m q (callsOf l) b c i))
+promised-from-start f m q s l e b c h i =
+    let d : board (startOf f m q .left) (startOf f m q .queue) ≡ board (s .left) (s .queue) = ap (λ (x : Started). board (x .left) (x .queue)) (sym e) in
+    let t = start-left f m q c ∙ d in
+    let a = subst (λ (x : Board). MeetsAll x l → AnswersAll x l) t (λ j. answered (startWorld f (m .store)) (emptied q) l (start-kept f m q b c) j i) in
+    carried (board (s .left) (s .queue)) l h (a h) (subst (λ (x : Board). Served x (callsOf l)) d (started-served f m q (callsOf l) b c i))

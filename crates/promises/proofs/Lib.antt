@@ -1,4 +1,5 @@
 pub mod Refusals
+pub mod Times
 pub mod Unmoved
 pub mod Lists
 pub mod Answers
@@ -6,3 +7,4 @@ pub mod Bars
 pub mod Streams
 pub mod Lost
 pub mod Examples
+pub mod Editions

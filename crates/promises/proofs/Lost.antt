@@ -16,10 +16,10 @@ use Rattle.queue.proofs.Round.{decode-encode, decoded-sound}
 use Rattle.calls.specs.Line.{Served, bothSound, flowIn, arriveCall, takeCall}
 use Rattle.calls.specs.List.{Board, board}
 use Rattle.calls.proofs.LineCalls.{queue-sound}
-use Rattle.promises.specs.Made.{Made, fed, refusedFeed, refusedArrive, refusedTake, refusedStart, lent, MeetsAll, left, leftAll, allDropped}
+use Rattle.promises.specs.Made.{Made, fed, timed, refusedFeed, refusedTime, refusedArrive, refusedTake, refusedStart, lent, MeetsAll, left, leftAll, allDropped}
 use Rattle.promises.specs.Made as made
 use Rattle.promises.proofs.Refusals.{refused-arrive}
-use Rattle.promises.proofs.Unmoved.{feed-unmoved, arrive-unmoved, take-unmoved, start-unmoved}
+use Rattle.promises.proofs.Unmoved.{feed-unmoved, time-unmoved, arrive-unmoved, take-unmoved, start-unmoved}
 
 -- the count in a queue record
 abbrev pub lost : List ℕ → ℕ
@@ -60,6 +60,7 @@ pub lost-counted : (b : Board) (l : List Made) → MeetsAll b l → lost (leftAl
 unfolding MeetsAll leftAll allDropped
 lost-counted b [] h = omega arith
 lost-counted b (fed p r c ∷ l) h = joined (lost (b .queue)) 0 (allDropped l) (lost (b .queue)) _ (omega arith) (lost-counted (board (c .left) (b .queue)) l (h .1))
+lost-counted b (timed ms r c ∷ l) h = joined (lost (b .queue)) 0 (allDropped l) (lost (b .queue)) _ (omega arith) (lost-counted (board (c .left) (b .queue)) l (h .1))
 lost-counted b (made.arrived x s ∷ l) h =
     let e : lost (s .queue) % 65536 ≡ (lost (b .queue) + cond (eqb (s .answer) 7) 1 0) % 65536 = rw (h .0) (arrive-lost (b .memory .state) (b .queue) x) in
     joined (lost (b .queue)) (cond (eqb (s .answer) 7) 1 0) (allDropped l) (lost (s .queue)) _ e (lost-counted (board (b .memory) (s .queue)) l (h .1))
@@ -67,6 +68,7 @@ lost-counted b (made.handed s ∷ l) h =
     let e : lost (s .queue) % 65536 ≡ (lost (b .queue) + 0) % 65536 = rw (h .0) (take-lost (b .memory .state) (b .queue)) in
     joined (lost (b .queue)) 0 (allDropped l) (lost (s .queue)) _ e (lost-counted (board (b .memory) (s .queue)) l (h .1))
 lost-counted b (refusedFeed z p r c ∷ l) h = stayed b (left b (refusedFeed z p r c)) 0 (allDropped l) _ (feed-unmoved b z p r c (h .0)) refl (lost-counted _ l (h .1))
+lost-counted b (refusedTime z ms r c ∷ l) h = stayed b (left b (refusedTime z ms r c)) 0 (allDropped l) _ (time-unmoved b z ms r c (h .0)) refl (lost-counted _ l (h .1))
 lost-counted b (refusedArrive t k x s ∷ l) h =
     let e = refused-arrive (lent t (b .memory .state)) (lent k (b .queue)) x s (h .0 .0) (h .0 .1) in
     stayed b (left b (refusedArrive t k x s)) _ (allDropped l) _ (arrive-unmoved b t k x s (h .0)) (ap (λ (y : Served). cond (eqb (y .answer) 7) 1 0) e) (lost-counted _ l (h .1))

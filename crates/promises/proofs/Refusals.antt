@@ -14,17 +14,23 @@ use Rattle.calls.specs.Feed.{feedOf}
 use Rattle.calls.specs.Start.{Started, started, startChecked, startOf}
 use Rattle.calls.specs.Line.{Served, served, bothSound, arriveCall, takeCall}
 use Rattle.calls.proofs.LineCalls as line
-use Rattle.feed.specs.Called.{Called, called, feedCall}
+use Rattle.state.specs.declared.Config.{Config}
+use Rattle.feed.specs.Called.{Called, called, inputsCall, feedCall, Timed, timed, timeCall}
 
 -- 1 to 4 of a piece: every lent byte stays, nothing is consumed, nothing replied
 pub refused-feed : (m : Memory) (p r : List ℕ) (c : Called) → c ≡ feedCall m p r → eqb (checked m) 0 ≡ false → c ≡ called (checked m) m r 0 0
-unfolding feedCall feedOf
+unfolding inputsCall feedOf
 refused-feed m p r c e f = e ∙ rw f
 
+-- and of time
+pub refused-time : (m : Memory) (ms : ℕ) (r : List ℕ) (c : Timed) → c ≡ timeCall m ms r → eqb (checked m) 0 ≡ false → c ≡ timed (checked m) m r 0
+unfolding inputsCall feedOf
+refused-time m ms r c e f = e ∙ rw f
+
 -- 1 to 4 of a start: every lent byte stays
-pub refused-start : (h : ℕ) (m : Memory) (q : List ℕ) (s : Started) → s ≡ startOf h m q → eqb (startChecked h m q) 0 ≡ false → s ≡ started m q (startChecked h m q)
+pub refused-start : (d : Config) (m : Memory) (q : List ℕ) (s : Started) → s ≡ startOf d m q → eqb (startChecked d m q) 0 ≡ false → s ≡ started m q (startChecked d m q)
 unfolding startOf
-refused-start h m q s e f = e ∙ rw f
+refused-start d m q s e f = e ∙ rw f
 
 -- 3 of an arrival and of a take
 pub refused-arrive : (st q : List ℕ) (b : ℕ) (s : Served) → s ≡ arriveCall st q b → bothSound st q ≡ false → s ≡ served 3 0 0 q

@@ -7,9 +7,10 @@ use Rattle.calls.specs.Memory.{Memory}
 use Rattle.calls.specs.Start.{Started}
 use Rattle.calls.specs.Line.{Served}
 use Rattle.calls.specs.List.{Board, board}
-use Rattle.feed.specs.Called.{Called}
-use Rattle.promises.specs.Made.{Slice, own, other, lent, returned, Slices, lentMemory, returnedMemory, Meets, left, refusedFeed, refusedArrive, refusedTake, refusedStart}
-use Rattle.promises.proofs.Refusals.{refused-feed, refused-start, refused-arrive, refused-take}
+use Rattle.state.specs.declared.Config.{Config}
+use Rattle.feed.specs.Called.{Called, Timed}
+use Rattle.promises.specs.Made.{Slice, own, other, lent, returned, Slices, lentMemory, returnedMemory, Meets, left, refusedFeed, refusedTime, refusedArrive, refusedTake, refusedStart}
+use Rattle.promises.proofs.Refusals.{refused-feed, refused-time, refused-start, refused-arrive, refused-take}
 
 -- a slice that comes back as it was lent
 returned-lent : (z : Slice) (g : List ℕ) → returned z g (lent z g) ≡ g
@@ -25,6 +26,11 @@ module _ (b : Board) where
       let e = refused-feed (lentMemory z (b .memory)) p r c (h .0) (h .1) in
       ap (λ (x : Called). board (returnedMemory z (b .memory) (x .left)) (b .queue)) e ∙ ap (λ (m : Memory). board m (b .queue)) (memory-lent z (b .memory))
 
+  pub time-unmoved : (z : Slices) (ms : ℕ) (r : List ℕ) (c : Timed) → Meets b (refusedTime z ms r c) → left b (refusedTime z ms r c) ≡ b
+  time-unmoved z ms r c h =
+      let e = refused-time (lentMemory z (b .memory)) ms r c (h .0) (h .1) in
+      ap (λ (x : Timed). board (returnedMemory z (b .memory) (x .left)) (b .queue)) e ∙ ap (λ (m : Memory). board m (b .queue)) (memory-lent z (b .memory))
+
   pub arrive-unmoved : (t k : Slice) (x : ℕ) (s : Served) → Meets b (refusedArrive t k x s) → left b (refusedArrive t k x s) ≡ b
   arrive-unmoved t k x s h =
       let e = refused-arrive (lent t (b .memory .state)) (lent k (b .queue)) x s (h .0) (h .1) in
@@ -35,7 +41,7 @@ module _ (b : Board) where
       let e = refused-take (lent t (b .memory .state)) (lent k (b .queue)) s (h .0) (h .1) in
       ap (λ (y : Served). board (b .memory) (returned k (b .queue) (y .queue))) e ∙ ap (board (b .memory)) (returned-lent k (b .queue))
 
-  pub start-unmoved : (n : ℕ) (z : Slices) (k : Slice) (s : Started) → Meets b (refusedStart n z k s) → left b (refusedStart n z k s) ≡ b
-  start-unmoved n z k s h =
-      let e = refused-start n (lentMemory z (b .memory)) (lent k (b .queue)) s (h .0) (h .1) in
+  pub start-unmoved : (d : Config) (z : Slices) (k : Slice) (s : Started) → Meets b (refusedStart d z k s) → left b (refusedStart d z k s) ≡ b
+  start-unmoved d z k s h =
+      let e = refused-start d (lentMemory z (b .memory)) (lent k (b .queue)) s (h .0) (h .1) in
       ap (λ (y : Started). board (returnedMemory z (b .memory) (y .left)) (returned k (b .queue) (y .queue))) e ∙ rw (memory-lent z (b .memory), returned-lent k (b .queue))

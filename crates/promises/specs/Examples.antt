@@ -1,4 +1,4 @@
--- THE MARKED EXAMPLES, one table. Each row is a stream: it is fed, in one piece, to a display of h rows that was started on a store of 1,024 zeros.
+-- THE MARKED EXAMPLES, one table. Each row is a stream: it is fed, in one piece, to a display of h rows and the older edition that was started on a store of 1,024 zeros.
 -- Assumes nothing.
 use mathlib.Core.Path.{_≡_}
 use mathlib.Core.List.{List, [], _∷_}
@@ -9,12 +9,14 @@ use Rattle.pixels.specs.Framebuffer.{Picture, width, pixel}
 use Rattle.pixels.specs.Regions.{point, box}
 use Rattle.canvas.specs.Sizes.{lengthFor}
 use Rattle.queue.specs.declared.Flow.{Flow}
+use Rattle.state.specs.Editions.{older}
+use Rattle.state.specs.State.{config}
 use Rattle.rules.specs.Settings.{flow}
 use Rattle.record.specs.Layout.{recordSize}
 use Rattle.record.specs.Reading.{decodeOf}
 use Rattle.calls.specs.Memory.{Memory, memory}
 use Rattle.calls.specs.Start.{Started, startOf}
-use Rattle.calls.specs.Feed.{Fed, feedOf}
+use Rattle.calls.specs.Feed.{Fed, pieceOf}
 
 pub record Byte : Type 0 where
   pub at : ℕ
@@ -40,11 +42,11 @@ abbrev pub given : ℕ → Memory
 given h = memory (replicate (lengthFor h) 255) (replicate 1024 0) (replicate recordSize 7)
 
 abbrev pub begun : ℕ → Started
-begun h = startOf h (given h) (replicate 85 7)
+begun h = startOf (config h older) (given h) (replicate 85 7)
 
 -- with room for 64 reply bytes
 abbrev pub fedTo : ℕ → List ℕ → Fed
-fedTo h l = feedOf (begun h .left) l 64
+fedTo h l = pieceOf (begun h .left) l 64
 
 -- ---- what a row says
 

@@ -12,7 +12,7 @@ use Rattle.bar_graph.specs.Bars.{rectangleOf, fullPicture}
 use Rattle.bar_ledger.specs.Claim.{ledgerAt, Agrees}
 use Rattle.bar_ledger.specs.Since.{SinceZero}
 use Rattle.queue.specs.Record as queue-record
-use Rattle.record.specs.Reading.{heightIn, decodeOf}
+use Rattle.record.specs.Reading.{configIn, decodeOf}
 use Rattle.state.specs.State.{barAt}
 use Rattle.rules.specs.World.{port, panel}
 use Rattle.rules.specs.Step.{step}
@@ -33,10 +33,10 @@ pub record ShowsWhole (b : Bar) (g : List ℕ) : Type 0 where
 pub record Promise (b : Board) (l : List Made) : Type 0 where
   -- each call's answer is the rules' one
   pub answers : AnswersAll b l
-  -- the memory is what the bytes consumed leave, and what was sent is what they send: one stream, however it was cut
+  -- the memory is what the inputs consumed leave, and what was sent is what they send: one stream, however it was cut
   pub stream : leftAll b l .memory ≡ saved (run (loaded (b .memory)) (allConsumed l))
   pub sent : allSent l ≡ said (loaded (b .memory)) (allConsumed l)
-  -- DEMAND 3, about the whole list: after every byte each known bar shows its full picture, a write that is not 0 changes only pixels in
+  -- DEMAND 3, about the whole list: after every input each known bar shows its full picture, a write that is not 0 changes only pixels in
   -- which the two full pictures differ, and no pixel outside its footprint changes
   pub bars : Agrees view step event (loaded (b .memory)) (allConsumed l)
   -- a known bar's rectangle lies on the framebuffer, so that every pixel of it counts
@@ -50,13 +50,13 @@ pub record Promise (b : Board) (l : List Made) : Type 0 where
   pub last : decodeOf (leftAll b l .memory .state) .port .refusals .last ≡ lastOf (loaded (b .memory)) (allConsumed l) (port (loaded (b .memory)) .refusals .last)
   -- no refusal has number 28, so that it is the last one only where it was before
   pub never-28 : (port (loaded (b .memory)) .refusals .last ≡ noGlyph → ⊥) → decodeOf (leftAll b l .memory .state) .port .refusals .last ≡ noGlyph → ⊥
-  -- the height stays
-  pub height : heightIn (leftAll b l .memory .state) ≡ heightIn (b .memory .state)
+  -- height and edition stay
+  pub config : configIn (leftAll b l .memory .state) ≡ configIn (b .memory .state)
   -- the next call is not refused with 1 to 4; an arrival or a take is not where the queue record was sound
   pub again : checked (leftAll b l .memory) ≡ 0
   pub line-again : queue-record.soundRecord (b .queue) ≡ true → bothSound (leftAll b l .memory .state) (leftAll b l .queue) ≡ true
 
--- a stream that was handed in as the pieces of these calls: all of it is consumed, and memory and replies are the whole stream's
+-- a stream that was handed in as the pieces and the times of these calls: all of it is consumed, and memory and replies are the whole stream's
 pub record Whole (b : Board) (l : List Made) : Type 0 where
   pub consumed : allConsumed l ≡ joined (chunksIn (callsOf l))
   pub memory : leftAll b l .memory ≡ saved (run (loaded (b .memory)) (joined (chunksIn (callsOf l))))

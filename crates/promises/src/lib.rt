@@ -1,1 +1,1 @@
-// What is promised of the four calls: definitions and theorems, no code.
+// What is promised of the five calls: definitions and theorems, no code.

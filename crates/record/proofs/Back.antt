@@ -17,7 +17,7 @@ use Rattle.state.specs.declared.BarSlot.{BarSlot}
 use Rattle.state.specs.declared.Strip.{Strip}
 use Rattle.state.specs.declared.Panel.{Panel}
 use Rattle.state.specs.declared.State.{State}
-use Rattle.record.specs.Layout.{heightAt, panelAt}
+use Rattle.record.specs.Layout.{heightAt, editionAt, panelAt}
 use Rattle.record.specs.Reading.{manyOf, phaseOf, argumentsIn, textOf, drawingOf, flowOf, refusalsOf, slotOf, stripOf, serialOf, backlightOf, panelOf}
 use Rattle.record.specs.Writing.{low, high, manyBytes, gatheringBytes, dataBytes, uploadBytes, textBytes, otherBytes, phaseBytes, portBytes}
 use Rattle.record.specs.Writing.{slotBytes, stripBytes, lastBytes, panelBytes, encodeOf}
@@ -42,7 +42,7 @@ phase-back Idle r a b c e f g = rw (f, g, e)
 phase-back Prefix r a b c e f g = rw (f, g, e)
 phase-back (Gathering code got) r a b c e f g = rw (f, g, e)
 phase-back (Inline x1 y1 x2 y2 came) r a b c e f g = rw (f, g, e, pair-back came)
-phase-back (Upload kind number size stored waiting byte) r a b c e f g = rw (f, g, e, pair-back size, pair-back stored, bit-back waiting)
+phase-back (Upload sort number size stored waiting byte waited) r a b c e f g = rw (f, g, e, pair-back number, pair-back size, pair-back stored, bit-back waiting, pair-back waited)
 
 arguments-back : (l m : List ℕ) → length l ≡ 6 → argumentsIn (l ++ m) ≡ l
 arguments-back [] m e = absurd (omega arith)
@@ -55,7 +55,7 @@ arguments-back (a ∷ b ∷ c ∷ d ∷ f ∷ g ∷ []) m e = refl
 arguments-back (a ∷ b ∷ c ∷ d ∷ f ∷ g ∷ h ∷ l) m e = absurd (omega arith)
 
 text-back : (t : Text) (m : List ℕ) → textOf (textBytes t ++ m) ≡ t
-text-back t m = rw (pair-back (t .x), bit-back (t .wrap), bit-back (t .scroll))
+text-back t m = rw (pair-back (t .font), pair-back (t .x), bit-back (t .wrap), bit-back (t .scroll))
 
 slot-back : (s : BarSlot) (m : List ℕ) → slotOf (slotBytes s ++ m) ≡ s
 slot-back s m = rw (bit-back (s .on))
@@ -110,7 +110,7 @@ module _ (q : Panel) (b : length (q .bars) ≡ 16) (t : length (q .strips) ≡ 8
 
 module _ (s : State) (z : Sized s) where
   abbrev behind : List ℕ
-  behind = s .height ∷ panelBytes (s .panel)
+  behind = s .config .height ∷ s .config .edition ∷ panelBytes (s .panel)
 
   flat : encodeOf s ≡ gatheringBytes (s .port .line .phase)
       ++ (s .port .line .args ++ (dataBytes (s .port .line .phase) ++ (uploadBytes (s .port .line .phase) ++ (textBytes (s .port .text) ++ (otherBytes (s .port) ++ behind)))))
@@ -126,23 +126,23 @@ module _ (s : State) (z : Sized s) where
   at-upload : drop 15 (encodeOf s) ≡ uploadBytes (s .port .line .phase) ++ (textBytes (s .port .text) ++ (otherBytes (s .port) ++ behind))
   at-upload = next (encodeOf s) (dataBytes (s .port .line .phase)) _ 9 6 at-data (length-data (s .port .line .phase))
 
-  at-text : drop 23 (encodeOf s) ≡ textBytes (s .port .text) ++ (otherBytes (s .port) ++ behind)
-  at-text = next (encodeOf s) (uploadBytes (s .port .line .phase)) _ 15 8 at-upload (length-upload (s .port .line .phase))
+  at-text : drop 26 (encodeOf s) ≡ textBytes (s .port .text) ++ (otherBytes (s .port) ++ behind)
+  at-text = next (encodeOf s) (uploadBytes (s .port .line .phase)) _ 15 11 at-upload (length-upload (s .port .line .phase))
 
-  at-drawing : drop 34 (encodeOf s) ≡ otherBytes (s .port) ++ behind
-  at-drawing = next (encodeOf s) (textBytes (s .port .text)) _ 23 11 at-text refl
+  at-drawing : drop 38 (encodeOf s) ≡ otherBytes (s .port) ++ behind
+  at-drawing = next (encodeOf s) (textBytes (s .port .text)) _ 26 12 at-text refl
 
-  at-flow : drop 37 (encodeOf s) ≡ drop 3 (otherBytes (s .port)) ++ behind
-  at-flow = sym (drop-drop 3 34 (encodeOf s)) ∙ ap (drop 3) at-drawing
+  at-flow : drop 41 (encodeOf s) ≡ drop 3 (otherBytes (s .port)) ++ behind
+  at-flow = sym (drop-drop 3 38 (encodeOf s)) ∙ ap (drop 3) at-drawing
 
-  at-refusals : drop 40 (encodeOf s) ≡ drop 6 (otherBytes (s .port)) ++ behind
-  at-refusals = sym (drop-drop 6 34 (encodeOf s)) ∙ ap (drop 6) at-drawing
+  at-refusals : drop 44 (encodeOf s) ≡ drop 6 (otherBytes (s .port)) ++ behind
+  at-refusals = sym (drop-drop 6 38 (encodeOf s)) ∙ ap (drop 6) at-drawing
 
   at-height : drop heightAt (encodeOf s) ≡ behind
-  at-height = next (encodeOf s) (otherBytes (s .port)) _ 34 9 at-drawing refl
+  at-height = next (encodeOf s) (otherBytes (s .port)) _ 38 9 at-drawing refl
 
   at-panel : drop panelAt (encodeOf s) ≡ panelBytes (s .panel)
-  at-panel = sym (drop-drop 1 heightAt (encodeOf s)) ∙ ap (drop 1) at-height
+  at-panel = sym (drop-drop 2 heightAt (encodeOf s)) ∙ ap (drop 2) at-height
 
   -- ---- and is read there
 
@@ -152,20 +152,23 @@ module _ (s : State) (z : Sized s) where
   pub arguments-read : argumentsIn (drop 3 (encodeOf s)) ≡ s .port .line .args
   arguments-read = ap argumentsIn at-arguments ∙ arguments-back (s .port .line .args) _ (z .args)
 
-  pub text-read : textOf (drop 23 (encodeOf s)) ≡ s .port .text
+  pub text-read : textOf (drop 26 (encodeOf s)) ≡ s .port .text
   text-read = ap textOf at-text ∙ text-back (s .port .text) (otherBytes (s .port) ++ behind)
 
-  pub drawing-read : drawingOf (drop 34 (encodeOf s)) ≡ s .port .drawing
+  pub drawing-read : drawingOf (drop 38 (encodeOf s)) ≡ s .port .drawing
   drawing-read = ap drawingOf at-drawing ∙ rw (colour-back (s .port .drawing .colour .black))
 
-  pub flow-read : flowOf (drop 37 (encodeOf s)) ≡ s .port .flow
+  pub flow-read : flowOf (drop 41 (encodeOf s)) ≡ s .port .flow
   flow-read = ap flowOf at-flow ∙ rw (bit-back (s .port .flow .on))
 
-  pub refusals-read : refusalsOf (drop 40 (encodeOf s)) ≡ s .port .refusals
+  pub refusals-read : refusalsOf (drop 44 (encodeOf s)) ≡ s .port .refusals
   refusals-read = ap refusalsOf at-refusals ∙ rw (pair-back (s .port .refusals .count))
 
-  pub height-read : at (encodeOf s) heightAt ≡ s .height
+  pub height-read : at (encodeOf s) heightAt ≡ s .config .height
   height-read = sym (getD-drop heightAt (encodeOf s) 0 0) ∙ ap (λ (l : List ℕ). at l 0) at-height
+
+  pub edition-read : at (encodeOf s) editionAt ≡ s .config .edition
+  edition-read = sym (getD-drop heightAt (encodeOf s) 1 0) ∙ ap (λ (l : List ℕ). at l 1) at-height
 
   pub panel-read : panelOf (drop panelAt (encodeOf s)) ≡ s .panel
   panel-read = ap panelOf at-panel ∙ panel-back (s .panel) (z .bars) (z .strips)

@@ -18,7 +18,7 @@ use Rattle.state.specs.declared.Panel.{Panel}
 use Rattle.state.specs.declared.State.{State}
 use Rattle.state.specs.State.{noBar, noStrip}
 use Rattle.state.specs.Fits.{PhaseFits, TextFits, PortFits, BarFits, StripFits, PanelFits, Fits}
-use Rattle.record.specs.Layout.{heightAt, panelAt}
+use Rattle.record.specs.Layout.{heightAt, editionAt, panelAt}
 use Rattle.record.specs.Reading.{manyOf, pairAt, inlineOf, uploadOf, phaseOf, argumentsIn, textOf, slotOf, stripOf, portOf, panelOf, decodeOf}
 use Rattle.record.specs.Writing.{low, high, manyBytes, gatheringBytes, dataBytes, uploadBytes, textBytes, otherBytes, phaseBytes, portBytes}
 use Rattle.record.specs.Writing.{slotBytes, stripBytes, lastBytes, panelBytes, encodeOf}
@@ -50,7 +50,7 @@ inline-fits : (l : List ℕ) → Bytes l → PhaseFits (inlineOf l)
 inline-fits l b = (b 0, b 1, b 2, b 3, pair-fits l 4 b)
 
 upload-fits : (l : List ℕ) → Bytes l → PhaseFits (uploadOf l)
-upload-fits l b = (b 0, b 1, pair-fits l 2 b, pair-fits l 4 b, b 7)
+upload-fits l b = (b 0, pair-fits l 1 b, pair-fits l 3 b, pair-fits l 5 b, b 8, pair-fits l 9 b)
 
 phase-fits : (r : List ℕ) → Bytes r → PhaseFits (phaseOf r)
 unfolding phaseOf
@@ -61,7 +61,7 @@ phase-fits r b =
     (choose (eqb (at r 0) 4) (uploadOf (drop 15 r)) Idle (upload-fits (drop 15 r) (bytes-drop 15 r b)) tt)))
 
 text-fits : (l : List ℕ) → Bytes l → TextFits (textOf l)
-text-fits l b = record { font = b 0; x = pair-fits l 1 b; y = b 3; left = b 4; top = b 5; char-space = b 6; line-space = b 7; scroll-row = b 8 }
+text-fits l b = record { font = pair-fits l 0 b; x = pair-fits l 2 b; y = b 4; left = b 5; top = b 6; char-space = b 7; line-space = b 8; scroll-row = b 9 }
 
 arguments-fit : (l : List ℕ) → Bytes l → Bytes (argumentsIn l)
 arguments-fit l b = each-bytes (argumentsIn l) (b 0, (b 1, (b 2, (b 3, (b 4, (b 5, tt))))))
@@ -82,16 +82,16 @@ many-fit P one size d z f (suc n) l b (suc i) = many-fit P one size d z f n (dro
 port-fits : (r : List ℕ) → Bytes r → PortFits (portOf r)
 unfolding portOf
 port-fits r b =
-    let d = bytes-drop 34 r b in
-    let f = bytes-drop 37 r b in
-    let n = bytes-drop 40 r b in
+    let d = bytes-drop 38 r b in
+    let f = bytes-drop 41 r b in
+    let n = bytes-drop 44 r b in
     record {
       phase = phase-fits r b;
       args = record { six = refl; bytes = arguments-fit (drop 3 r) (bytes-drop 3 r b) };
-      text = text-fits (drop 23 r) (bytes-drop 23 r b);
+      text = text-fits (drop 26 r) (bytes-drop 26 r b);
       drawing = record { x = d 1; y = d 2 };
       flow = record { full = f 1; empty = f 2 };
-      refusals = record { count = pair-fits (drop 40 r) 0 n; last = n 2 };
+      refusals = record { count = pair-fits (drop 44 r) 0 n; last = n 2 };
     }
 
 panel-fits : (l : List ℕ) → Bytes l → PanelFits (panelOf l)
@@ -110,7 +110,7 @@ panel-fits l b =
 
 pub decoded-fits : (r : List ℕ) → Bytes r → Fits (decodeOf r)
 unfolding decodeOf
-decoded-fits r b = record { height = b heightAt; port = port-fits r b; panel = panel-fits (drop panelAt r) (bytes-drop panelAt r b) }
+decoded-fits r b = record { config = record { height = b heightAt; edition = b editionAt }; port = port-fits r b; panel = panel-fits (drop panelAt r) (bytes-drop panelAt r b) }
 
 -- ---- writing
 
@@ -140,24 +140,28 @@ gathering-fits Idle f = (zero-fits, (zero-fits, (zero-fits, tt)))
 gathering-fits Prefix f = (lit< tt, (zero-fits, (zero-fits, tt)))
 gathering-fits (Gathering code got) f = (lit< tt, (f .0, (f .1, tt)))
 gathering-fits (Inline x1 y1 x2 y2 came) f = (lit< tt, (zero-fits, (zero-fits, tt)))
-gathering-fits (Upload kind number size stored waiting byte) f = (lit< tt, (zero-fits, (zero-fits, tt)))
+gathering-fits (Upload sort number size stored waiting byte waited) f = (lit< tt, (zero-fits, (zero-fits, tt)))
 
 six-zeros : Each (0 ∷ 0 ∷ 0 ∷ 0 ∷ 0 ∷ 0 ∷ [])
 six-zeros = (zero-fits, (zero-fits, (zero-fits, (zero-fits, (zero-fits, (zero-fits, tt))))))
+
+eleven-zeros : Each (0 ∷ 0 ∷ 0 ∷ 0 ∷ 0 ∷ 0 ∷ 0 ∷ 0 ∷ 0 ∷ 0 ∷ 0 ∷ [])
+eleven-zeros = (zero-fits, (zero-fits, (zero-fits, (zero-fits, (zero-fits, six-zeros)))))
 
 data-fits : (p : Phase) → PhaseFits p → Each (dataBytes p)
 data-fits Idle f = six-zeros
 data-fits Prefix f = six-zeros
 data-fits (Gathering code got) f = six-zeros
 data-fits (Inline x1 y1 x2 y2 came) f = (f .0, (f .1, (f .2, (f .3, (low-fits came, (high-fits came (f .4), tt))))))
-data-fits (Upload kind number size stored waiting byte) f = six-zeros
+data-fits (Upload sort number size stored waiting byte waited) f = six-zeros
 
 upload-written : (p : Phase) → PhaseFits p → Each (uploadBytes p)
-upload-written Idle f = (zero-fits, (zero-fits, six-zeros))
-upload-written Prefix f = (zero-fits, (zero-fits, six-zeros))
-upload-written (Gathering code got) f = (zero-fits, (zero-fits, six-zeros))
-upload-written (Inline x1 y1 x2 y2 came) f = (zero-fits, (zero-fits, six-zeros))
-upload-written (Upload kind number size stored waiting byte) f = (f .0, (f .1, (low-fits size, (high-fits size (f .2), (low-fits stored, (high-fits stored (f .3), (bit-fits waiting, (f .4, tt))))))))
+upload-written Idle f = eleven-zeros
+upload-written Prefix f = eleven-zeros
+upload-written (Gathering code got) f = eleven-zeros
+upload-written (Inline x1 y1 x2 y2 came) f = eleven-zeros
+upload-written (Upload sort number size stored waiting byte waited) f =
+    (f .0, (low-fits number, (high-fits number (f .1), (low-fits size, (high-fits size (f .2), (low-fits stored, (high-fits stored (f .3), (bit-fits waiting, (f .4, (low-fits waited, (high-fits waited (f .5), tt)))))))))))
 
 slot-written : (s : BarSlot) → BarFits s → Each (slotBytes s)
 slot-written s f = (bit-fits (s .on), (f .kind, (f .x1, (f .y1, (f .x2, (f .y2, (f .value, tt)))))))
@@ -180,7 +184,7 @@ port-written p f =
     (each-append (p .line .args) _ (bytes-each (p .line .args) (f .args .bytes))
     (each-append (dataBytes (p .line .phase)) _ (data-fits (p .line .phase) (f .phase)) (upload-written (p .line .phase) (f .phase)))))
     (each-append (textBytes (p .text)) (otherBytes p)
-    (t .font, (low-fits (p .text .x), (high-fits (p .text .x) (t .x), (t .y, (t .left, (t .top, (t .char-space, (t .line-space, (t .scroll-row, (bit-fits (p .text .wrap), (bit-fits (p .text .scroll), tt)))))))))))
+    (low-fits (p .text .font), (high-fits (p .text .font) (t .font), (low-fits (p .text .x), (high-fits (p .text .x) (t .x), (t .y, (t .left, (t .top, (t .char-space, (t .line-space, (t .scroll-row, (bit-fits (p .text .wrap), (bit-fits (p .text .scroll), tt))))))))))))
     (bit-fits (p .drawing .colour .black), (f .drawing .x, (f .drawing .y, (bit-fits (p .flow .on), (f .flow .full, (f .flow .empty, (low-fits (p .refusals .count), (high-fits (p .refusals .count) (r .count), (r .last, tt))))))))))
 
 panel-written : (q : Panel) → PanelFits q → Each (panelBytes q)
@@ -193,5 +197,6 @@ panel-written q f =
 pub encoded-bytes : (s : State) → Fits s → Bytes (encodeOf s)
 unfolding encodeOf
 encoded-bytes s f =
-    each-bytes (portBytes (s .port) ++ (s .height ∷ panelBytes (s .panel)))
-    (each-append (portBytes (s .port)) (s .height ∷ panelBytes (s .panel)) (port-written (s .port) (f .port)) (f .height, panel-written (s .panel) (f .panel)))
+    let c = f .config in
+    each-bytes (portBytes (s .port) ++ (s .config .height ∷ s .config .edition ∷ panelBytes (s .panel)))
+    (each-append (portBytes (s .port)) (s .config .height ∷ s .config .edition ∷ panelBytes (s .panel)) (port-written (s .port) (f .port)) (c .height, (c .edition, panel-written (s .panel) (f .panel))))

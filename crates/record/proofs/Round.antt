@@ -16,19 +16,22 @@ use Rattle.canvas.specs.Sizes.{isHeight}
 use Rattle.canvas.proofs.Heights.{height-fits}
 use Rattle.state.specs.declared.Refusals.{Refusals}
 use Rattle.state.specs.declared.Panel.{Panel}
+use Rattle.state.specs.declared.Config.{Config}
 use Rattle.state.specs.declared.State.{State}
+use Rattle.state.specs.Editions.{isEdition}
 use Rattle.state.specs.State.{startState}
-use Rattle.state.specs.Soundness.{soundPort, soundState, thresholdsFit}
+use Rattle.state.specs.Soundness.{soundPort, soundConfig, soundState, thresholdsFit}
 use Rattle.state.specs.Canonical.{canonicalState}
-use Rattle.state.specs.Fits.{Fits}
+use Rattle.state.specs.Fits.{ConfigFits, Fits}
+use Rattle.state.proofs.Editions.{edition-fits}
 use Rattle.state.proofs.Start.{start-sound, start-thresholds, start-canonical, start-fits}
-use Rattle.record.specs.Layout.{flowAt, flowFullAt, flowEmptyAt, refusalsAt, lastRefusalAt, panelAt, contrastAt, backlightAt, minutesAt, heightAt, recordSize}
-use Rattle.record.specs.Reading.{pairAt, flagAt, portOf, panelOf, heightIn, decodeOf}
+use Rattle.record.specs.Layout.{flowAt, flowFullAt, flowEmptyAt, refusalsAt, lastRefusalAt, panelAt, contrastAt, backlightAt, minutesAt, heightAt, editionAt, recordSize}
+use Rattle.record.specs.Reading.{pairAt, flagAt, portOf, panelOf, configIn, decodeOf}
 use Rattle.record.specs.Writing.{encodeOf}
 use Rattle.record.specs.Record.{encodedIn, sameBytes, recognised, soundRecord}
 use Rattle.record.proofs.Same.{both, same-refl, same-equal}
 use Rattle.record.proofs.Whole.{Sized, length-sized, written-whole}
-use Rattle.record.proofs.Back.{height-read, phase-read, arguments-read, text-read, drawing-read, flow-read, refusals-read, panel-read}
+use Rattle.record.proofs.Back.{height-read, edition-read, phase-read, arguments-read, text-read, drawing-read, flow-read, refusals-read, panel-read}
 use Rattle.record.proofs.Bytes.{decoded-fits, encoded-bytes}
 
 pub sized : (s : State) → Fits s → Sized s
@@ -55,6 +58,7 @@ decode-encode s f =
     let z = sized s f in
     rw (
       height-read s z,
+      edition-read s z,
       phase-read s z,
       arguments-read s z,
       text-read s z,
@@ -94,10 +98,12 @@ encode-decode r e = passed r e .again
 
 -- what is accepted at all is recognised
 pub sound-recognised : (r : List ℕ) → soundRecord r ≡ true → recognised r ≡ true
-unfolding recognised soundState decodeOf
+unfolding recognised soundState soundConfig decodeOf
 sound-recognised r e =
     let p = passed r e in
-    rw (eq-eqb (length r) recordSize (p .long)) (and-one (isHeight (heightIn r)) _ (and-one (isHeight (heightIn r) && soundPort (portOf r)) _ (p .sound)))
+    let c = configIn r in
+    let q = and-one (soundConfig c && soundPort (c .edition) (portOf r)) _ (p .sound) in
+    rw (eq-eqb (length r) recordSize (p .long)) (and-one (isHeight (c .height)) _ (and-one (soundConfig c) _ q))
 
 -- ---- sound both ways
 
@@ -123,11 +129,18 @@ sound-exactly r b = (
 
 -- ---- the start, and what a board shows
 
-pub start-record : (h : ℕ) → isHeight h ≡ true → soundRecord (encodeOf (startState h)) ≡ true
-start-record h k = encoded-sound (startState h) (start-fits h (height-fits h k)) (start-sound h k) (start-thresholds h) (start-canonical h)
+pub config-fits : (c : Config) → soundConfig c ≡ true → ConfigFits c
+unfolding soundConfig
+config-fits c k =
+    let p = both (isHeight (c .height)) (isEdition (c .edition)) k in
+    record { height = height-fits (c .height) (p .0); edition = edition-fits (c .edition) (p .1) }
+
+pub start-record : (c : Config) → soundConfig c ≡ true → soundRecord (encodeOf (startState c)) ≡ true
+start-record c k = encoded-sound (startState c) (start-fits c (config-fits c k)) (start-sound c k) (start-thresholds (c .height)) (start-canonical c)
 
 pub record Shown (s : State) (r : List ℕ) : Type 0 where
-  pub height : at r heightAt ≡ s .height
+  pub height : at r heightAt ≡ s .config .height
+  pub edition : at r editionAt ≡ s .config .edition
   pub contrast : at r contrastAt ≡ s .panel .contrast
   pub backlight : flagAt r backlightAt ≡ s .panel .backlight .on
   pub minutes : at r minutesAt ≡ s .panel .backlight .minutes
@@ -158,12 +171,13 @@ shown s f =
     let r = encodeOf s in
     record {
       height = height-read s z;
+      edition = edition-read s z;
       contrast = panel-contrast r ∙ ap (λ (q : Panel). q .contrast) (panel-read s z);
       backlight = panel-backlight r ∙ ap (λ (q : Panel). q .backlight .on) (panel-read s z);
       minutes = panel-minutes r ∙ ap (λ (q : Panel). q .backlight .minutes) (panel-read s z);
-      count = sym (cong-pair (getD-drop 40 r 0 0) (getD-drop 40 r 1 0)) ∙ ap (λ (n : Refusals). n .count) (refusals-read s z);
-      last = sym (getD-drop 40 r 2 0) ∙ ap (λ (n : Refusals). n .last) (refusals-read s z);
-      flow = sym (ap (λ (n : ℕ). eqb n 1) (getD-drop 37 r 0 0)) ∙ ap (λ (w : Flow). w .on) (flow-read s z);
-      full = sym (getD-drop 37 r 1 0) ∙ ap (λ (w : Flow). w .full) (flow-read s z);
-      empty = sym (getD-drop 37 r 2 0) ∙ ap (λ (w : Flow). w .empty) (flow-read s z);
+      count = sym (cong-pair (getD-drop 44 r 0 0) (getD-drop 44 r 1 0)) ∙ ap (λ (n : Refusals). n .count) (refusals-read s z);
+      last = sym (getD-drop 44 r 2 0) ∙ ap (λ (n : Refusals). n .last) (refusals-read s z);
+      flow = sym (ap (λ (n : ℕ). eqb n 1) (getD-drop 41 r 0 0)) ∙ ap (λ (w : Flow). w .on) (flow-read s z);
+      full = sym (getD-drop 41 r 1 0) ∙ ap (λ (w : Flow). w .full) (flow-read s z);
+      empty = sym (getD-drop 41 r 2 0) ∙ ap (λ (w : Flow). w .empty) (flow-read s z);
     }

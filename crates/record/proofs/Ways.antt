@@ -12,9 +12,9 @@ use Rattle.state.specs.declared.Phase.the-variants.{Idle, Prefix, Gathering}
 use Rattle.state.specs.declared.Text.{Text}
 use Rattle.state.specs.declared.Drawing.{Drawing}
 use Rattle.state.specs.declared.Refusals.{Refusals}
-use Rattle.state.specs.State.{lineOf}
-use Rattle.record.specs.Layout.{phaseAt, codeAt, gotAt, argumentsAt, inlineAt, uploadAt, textAt, drawingAt, flowAt, refusalsAt}
-use Rattle.record.specs.Reading.{inlineOf, uploadOf, phaseOf, argumentsIn, textOf, drawingOf, flowOf, refusalsOf, portOf}
+use Rattle.state.specs.State.{lineOf, config}
+use Rattle.record.specs.Layout.{phaseAt, codeAt, gotAt, argumentsAt, inlineAt, uploadAt, textAt, drawingAt, flowAt, refusalsAt, heightAt, editionAt}
+use Rattle.record.specs.Reading.{inlineOf, uploadOf, phaseOf, argumentsIn, textOf, drawingOf, flowOf, refusalsOf, portOf, configIn}
 
 -- ---- reading: the tag of the phase, as the code has it
 
@@ -38,6 +38,9 @@ module _ (r : List ℕ) (t : ℕ) (e : t ≡ at r phaseAt) where
   pub phase-idle : (t ≡ 1 → ⊥) → (t ≡ 2 → ⊥) → (t ≡ 3 → ⊥) → (t ≡ 4 → ⊥) → Idle ≡ phaseOf r
   unfolding phaseOf
   phase-idle h1 h2 h3 h4 = rw (← e, ne-eqb t 1 h1, ne-eqb t 2 h2, ne-eqb t 3 h3, ne-eqb t 4 h4)
+
+pub config-is : (r : List ℕ) (h n : ℕ) → h ≡ at r heightAt → n ≡ at r editionAt → config h n ≡ configIn r
+config-is r h n e f = rw (e, f)
 
 -- ---- all of it
 

@@ -24,21 +24,21 @@ length-gathering Idle = refl
 length-gathering Prefix = refl
 length-gathering (Gathering code got) = refl
 length-gathering (Inline x1 y1 x2 y2 came) = refl
-length-gathering (Upload kind number size stored waiting byte) = refl
+length-gathering (Upload sort number size stored waiting byte waited) = refl
 
 pub length-data : (p : Phase) → length (dataBytes p) ≡ 6
 length-data Idle = refl
 length-data Prefix = refl
 length-data (Gathering code got) = refl
 length-data (Inline x1 y1 x2 y2 came) = refl
-length-data (Upload kind number size stored waiting byte) = refl
+length-data (Upload sort number size stored waiting byte waited) = refl
 
-pub length-upload : (p : Phase) → length (uploadBytes p) ≡ 8
+pub length-upload : (p : Phase) → length (uploadBytes p) ≡ 11
 length-upload Idle = refl
 length-upload Prefix = refl
 length-upload (Gathering code got) = refl
 length-upload (Inline x1 y1 x2 y2 came) = refl
-length-upload (Upload kind number size stored waiting byte) = refl
+length-upload (Upload sort number size stored waiting byte waited) = refl
 
 -- a part, and what follows it
 part : (l m : List ℕ) (a b : ℕ) → length l ≡ a → length m ≡ b → length (l ++ m) ≡ a + b
@@ -50,16 +50,16 @@ pub record Sized (s : State) : Type 0 where
   pub bars : length (s .panel .bars) ≡ 16
   pub strips : length (s .panel .strips) ≡ 8
 
-pub length-phase : (p : Port) → length (p .line .args) ≡ 6 → length (phaseBytes p) ≡ 23
+pub length-phase : (p : Port) → length (p .line .args) ≡ 6 → length (phaseBytes p) ≡ 26
 unfolding phaseBytes
 length-phase p e =
-    part (gatheringBytes (p .line .phase)) _ 3 20 (length-gathering (p .line .phase))
-    (part (p .line .args) _ 6 14 e
-    (part (dataBytes (p .line .phase)) _ 6 8 (length-data (p .line .phase)) (length-upload (p .line .phase))))
+    part (gatheringBytes (p .line .phase)) _ 3 23 (length-gathering (p .line .phase))
+    (part (p .line .args) _ 6 17 e
+    (part (dataBytes (p .line .phase)) _ 6 11 (length-data (p .line .phase)) (length-upload (p .line .phase))))
 
 pub length-port : (p : Port) → length (p .line .args) ≡ 6 → length (portBytes p) ≡ portSize
 unfolding portBytes
-length-port p e = part (phaseBytes p) _ 23 20 (length-phase p e) refl
+length-port p e = part (phaseBytes p) _ 26 21 (length-phase p e) refl
 
 pub length-bars : (q : Panel) → length (q .bars) ≡ 16 → length (manyBytes slotBytes (q .bars)) ≡ 112
 length-bars q e = length-manyBytes slotBytes 7 (λ a. refl) (q .bars) ∙ rw e
@@ -73,7 +73,7 @@ length-panel q e f = part (manyBytes slotBytes (q .bars)) _ 112 46 (length-bars 
 
 pub length-sized : (s : State) → Sized s → length (encodeOf s) ≡ recordSize
 unfolding encodeOf
-length-sized s z = part (portBytes (s .port)) _ portSize (1 + panelSize) (length-port (s .port) (z .args)) (rw (length-panel (s .panel) (z .bars) (z .strips)))
+length-sized s z = part (portBytes (s .port)) _ portSize (2 + panelSize) (length-port (s .port) (z .args)) (rw (length-panel (s .panel) (z .bars) (z .strips)))
 
 -- ---- a slice of just that size
 

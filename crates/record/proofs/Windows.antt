@@ -1,4 +1,4 @@
--- Each part, read from the eleven bytes that the code takes from its place on.
+-- Each part, read from the twelve bytes that the code takes from its place on.
 -- Assumes nothing.
 use mathlib.Core.Path.{_≡_, sym, ap, _∙_}
 use mathlib.Core.List.{List, [], _∷_}
@@ -17,38 +17,39 @@ use Rattle.record.specs.Reading.{inlineOf, uploadOf, argumentsIn, textOf
 pub at-end : (r : List ℕ) (k : ℕ) → length r ≤ k → 0 ≡ at r k
 at-end r k h = sym (List·getD-eq-default r 0 {n = k} h)
 
-pub window-byte : (r : List ℕ) (k i b : ℕ) → i < 11 → b ≡ at r (k + i) → b ≡ at (bytesFrom (drop k r) 0 11) i
+pub window-byte : (r : List ℕ) (k i b : ℕ) → i < 12 → b ≡ at r (k + i) → b ≡ at (bytesFrom (drop k r) 0 12) i
 window-byte r k i b h e =
     let z : 0 + i ≡ i = omega arith in
-    e ∙ sym (at-bytesFrom (drop k r) 0 11 i h ∙ ap (at (drop k r)) z ∙ getD-drop k r i 0)
+    e ∙ sym (at-bytesFrom (drop k r) 0 12 i h ∙ ap (at (drop k r)) z ∙ getD-drop k r i 0)
 
-module _ (l w : List ℕ) (e : w ≡ bytesFrom l 0 11) where
+module _ (l w : List ℕ) (e : w ≡ bytesFrom l 0 12) where
   pub inline-is : (d : ℕ) → d ≡ at w 4 + 256 * at w 5 → Inline (at w 0) (at w 1) (at w 2) (at w 3) d ≡ inlineOf l
   unfolding bytesFrom
   inline-is d f = rw (f, e)
 
-  pub upload-is : (z s : ℕ) → z ≡ at w 2 + 256 * at w 3 → s ≡ at w 4 + 256 * at w 5 → Upload (at w 0) (at w 1) z s (eqb (at w 6) 1) (at w 7) ≡ uploadOf l
+  pub upload-is : (n z s t : ℕ) → n ≡ at w 1 + 256 * at w 2 → z ≡ at w 3 + 256 * at w 4 → s ≡ at w 5 + 256 * at w 6 → t ≡ at w 9 + 256 * at w 10
+      → Upload (at w 0) n z s (eqb (at w 7) 1) (at w 8) t ≡ uploadOf l
   unfolding bytesFrom
-  upload-is z s f g = rw (f, g, e)
+  upload-is n z s t d f g h = rw (d, f, g, h, e)
 
   pub arguments-are : (at w 0 ∷ at w 1 ∷ at w 2 ∷ at w 3 ∷ at w 4 ∷ at w 5 ∷ []) ≡ argumentsIn l
   unfolding bytesFrom
   arguments-are = rw e
 
-  pub text-is : (x : ℕ) → x ≡ at w 1 + 256 * at w 2 → record {
-    font = at w 0;
+  pub text-is : (n x : ℕ) → n ≡ at w 0 + 256 * at w 1 → x ≡ at w 2 + 256 * at w 3 → record {
+    font = n;
     x = x;
-    y = at w 3;
-    left = at w 4;
-    top = at w 5;
-    «char_space» = at w 6;
-    «line_space» = at w 7;
-    «scroll_row» = at w 8;
-    wrap = eqb (at w 9) 1;
-    scroll = eqb (at w 10) 1;
+    y = at w 4;
+    left = at w 5;
+    top = at w 6;
+    «char_space» = at w 7;
+    «line_space» = at w 8;
+    «scroll_row» = at w 9;
+    wrap = eqb (at w 10) 1;
+    scroll = eqb (at w 11) 1;
   } ≡ textOf l
   unfolding bytesFrom
-  text-is x f = rw (f, e)
+  text-is n x d f = rw (d, f, e)
 
   pub drawing-is : (c : Colour) → c ≡ colourOf (at w 0) → record { colour = c; x = at w 1; y = at w 2 } ≡ drawingOf l
   unfolding bytesFrom

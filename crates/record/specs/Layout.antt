@@ -21,46 +21,50 @@ argumentsAt = 3
 abbrev pub inlineAt : ℕ
 inlineAt = 9
 
--- upload: kind, number, size (2), stored (2), waiting, byte
+-- upload: sort, number (2), size (2), stored (2), waiting, byte, waited (2)
 abbrev pub uploadAt : ℕ
 uploadAt = 15
 
--- text: font, x (2), y, left, top, char_space, line_space, scroll_row, wrap, scroll
+-- text: font (2), x (2), y, left, top, char_space, line_space, scroll_row, wrap, scroll
 abbrev pub textAt : ℕ
-textAt = 23
+textAt = 26
 
 -- drawing: colour (1 black, 0 white), x, y
 abbrev pub drawingAt : ℕ
-drawingAt = 34
+drawingAt = 38
 
 -- flow: on, full, empty
 abbrev pub flowAt : ℕ
-flowAt = 37
+flowAt = 41
 
 abbrev pub flowFullAt : ℕ
-flowFullAt = 38
+flowFullAt = 42
 
 abbrev pub flowEmptyAt : ℕ
-flowEmptyAt = 39
+flowEmptyAt = 43
 
 -- refusals: count (2), last
 abbrev pub refusalsAt : ℕ
-refusalsAt = 40
+refusalsAt = 44
 
 abbrev pub lastRefusalAt : ℕ
-lastRefusalAt = 42
+lastRefusalAt = 46
 
 -- so many bytes belong to one line
 abbrev pub portSize : ℕ
-portSize = 43
+portSize = 47
 
 -- the framebuffer's height, in rows
 abbrev pub heightAt : ℕ
 heightAt = portSize
 
+-- the edition of the upload protocol
+abbrev pub editionAt : ℕ
+editionAt = heightAt + 1
+
 -- what follows belongs to the display
 abbrev pub panelAt : ℕ
-panelAt = heightAt + 1
+panelAt = editionAt + 1
 
 abbrev pub panelSize : ℕ
 panelSize = 158

@@ -19,9 +19,10 @@ use Rattle.state.specs.declared.Strip.{Strip}
 use Rattle.state.specs.declared.Serial.{Serial}
 use Rattle.state.specs.declared.Backlight.{Backlight}
 use Rattle.state.specs.declared.Panel.{Panel}
+use Rattle.state.specs.declared.Config.{Config}
 use Rattle.state.specs.declared.State.{State}
-use Rattle.state.specs.State.{lineOf, barOf, barSlot, strip, state}
-use Rattle.record.specs.Layout.{phaseAt, codeAt, gotAt, argumentsAt, inlineAt, uploadAt, textAt, drawingAt, flowAt, refusalsAt, heightAt, panelAt, panelBars, barSize, panelStrips, stripSize, panelSerial, panelContrast, panelBacklight}
+use Rattle.state.specs.State.{lineOf, barOf, barSlot, strip, config, state}
+use Rattle.record.specs.Layout.{phaseAt, codeAt, gotAt, argumentsAt, inlineAt, uploadAt, textAt, drawingAt, flowAt, refusalsAt, heightAt, editionAt, panelAt, panelBars, barSize, panelStrips, stripSize, panelSerial, panelContrast, panelBacklight}
 
 -- a number of two bytes, low byte first
 abbrev pub pairAt : List ℕ → ℕ → ℕ
@@ -42,7 +43,7 @@ abbrev pub inlineOf : List ℕ → Phase
 inlineOf l = Inline (at l 0) (at l 1) (at l 2) (at l 3) (pairAt l 4)
 
 abbrev pub uploadOf : List ℕ → Phase
-uploadOf l = Upload (at l 0) (at l 1) (pairAt l 2) (pairAt l 4) (flagAt l 6) (at l 7)
+uploadOf l = Upload (at l 0) (pairAt l 1) (pairAt l 3) (pairAt l 5) (flagAt l 7) (at l 8) (pairAt l 9)
 
 -- a tag above 4 is read as idle
 unfoldable pub phaseOf : List ℕ → Phase
@@ -59,16 +60,16 @@ argumentsIn l = at l 0 ∷ at l 1 ∷ at l 2 ∷ at l 3 ∷ at l 4 ∷ at l 5 �
 abbrev pub textOf : List ℕ → Text
 textOf l =
     record {
-      font = at l 0;
-      x = pairAt l 1;
-      y = at l 3;
-      left = at l 4;
-      top = at l 5;
-      «char_space» = at l 6;
-      «line_space» = at l 7;
-      «scroll_row» = at l 8;
-      wrap = flagAt l 9;
-      scroll = flagAt l 10;
+      font = pairAt l 0;
+      x = pairAt l 2;
+      y = at l 4;
+      left = at l 5;
+      top = at l 6;
+      «char_space» = at l 7;
+      «line_space» = at l 8;
+      «scroll_row» = at l 9;
+      wrap = flagAt l 10;
+      scroll = flagAt l 11;
     }
 
 abbrev pub drawingOf : List ℕ → Drawing
@@ -120,5 +121,12 @@ panelOf l =
 abbrev pub heightIn : List ℕ → ℕ
 heightIn r = at r heightAt
 
+abbrev pub editionIn : List ℕ → ℕ
+editionIn r = at r editionAt
+
+-- what the board chose at start
+abbrev pub configIn : List ℕ → Config
+configIn r = config (heightIn r) (editionIn r)
+
 unfoldable pub decodeOf : List ℕ → State
-decodeOf r = state (heightIn r) (portOf r) (panelOf (drop panelAt r))
+decodeOf r = state (configIn r) (portOf r) (panelOf (drop panelAt r))

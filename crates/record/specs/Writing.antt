@@ -31,25 +31,26 @@ gatheringBytes Idle = 0 ∷ 0 ∷ 0 ∷ []
 gatheringBytes Prefix = 1 ∷ 0 ∷ 0 ∷ []
 gatheringBytes (Gathering code got) = 2 ∷ code ∷ got ∷ []
 gatheringBytes (Inline x1 y1 x2 y2 came) = 3 ∷ 0 ∷ 0 ∷ []
-gatheringBytes (Upload kind number size stored waiting byte) = 4 ∷ 0 ∷ 0 ∷ []
+gatheringBytes (Upload sort number size stored waiting byte waited) = 4 ∷ 0 ∷ 0 ∷ []
 
 abbrev pub dataBytes : Phase → List ℕ
 dataBytes Idle = 0 ∷ 0 ∷ 0 ∷ 0 ∷ 0 ∷ 0 ∷ []
 dataBytes Prefix = 0 ∷ 0 ∷ 0 ∷ 0 ∷ 0 ∷ 0 ∷ []
 dataBytes (Gathering code got) = 0 ∷ 0 ∷ 0 ∷ 0 ∷ 0 ∷ 0 ∷ []
 dataBytes (Inline x1 y1 x2 y2 came) = x1 ∷ y1 ∷ x2 ∷ y2 ∷ low came ∷ high came ∷ []
-dataBytes (Upload kind number size stored waiting byte) = 0 ∷ 0 ∷ 0 ∷ 0 ∷ 0 ∷ 0 ∷ []
+dataBytes (Upload sort number size stored waiting byte waited) = 0 ∷ 0 ∷ 0 ∷ 0 ∷ 0 ∷ 0 ∷ []
 
 abbrev pub uploadBytes : Phase → List ℕ
-uploadBytes Idle = 0 ∷ 0 ∷ 0 ∷ 0 ∷ 0 ∷ 0 ∷ 0 ∷ 0 ∷ []
-uploadBytes Prefix = 0 ∷ 0 ∷ 0 ∷ 0 ∷ 0 ∷ 0 ∷ 0 ∷ 0 ∷ []
-uploadBytes (Gathering code got) = 0 ∷ 0 ∷ 0 ∷ 0 ∷ 0 ∷ 0 ∷ 0 ∷ 0 ∷ []
-uploadBytes (Inline x1 y1 x2 y2 came) = 0 ∷ 0 ∷ 0 ∷ 0 ∷ 0 ∷ 0 ∷ 0 ∷ 0 ∷ []
-uploadBytes (Upload kind number size stored waiting byte) = kind ∷ number ∷ low size ∷ high size ∷ low stored ∷ high stored ∷ bit waiting ∷ byte ∷ []
+uploadBytes Idle = 0 ∷ 0 ∷ 0 ∷ 0 ∷ 0 ∷ 0 ∷ 0 ∷ 0 ∷ 0 ∷ 0 ∷ 0 ∷ []
+uploadBytes Prefix = 0 ∷ 0 ∷ 0 ∷ 0 ∷ 0 ∷ 0 ∷ 0 ∷ 0 ∷ 0 ∷ 0 ∷ 0 ∷ []
+uploadBytes (Gathering code got) = 0 ∷ 0 ∷ 0 ∷ 0 ∷ 0 ∷ 0 ∷ 0 ∷ 0 ∷ 0 ∷ 0 ∷ 0 ∷ []
+uploadBytes (Inline x1 y1 x2 y2 came) = 0 ∷ 0 ∷ 0 ∷ 0 ∷ 0 ∷ 0 ∷ 0 ∷ 0 ∷ 0 ∷ 0 ∷ 0 ∷ []
+uploadBytes (Upload sort number size stored waiting byte waited) =
+    sort ∷ low number ∷ high number ∷ low size ∷ high size ∷ low stored ∷ high stored ∷ bit waiting ∷ byte ∷ low waited ∷ high waited ∷ []
 
 abbrev pub textBytes : Text → List ℕ
 textBytes t =
-    t .font ∷ low (t .x) ∷ high (t .x) ∷ t .y ∷ t .left ∷ t .top ∷ t .«char_space» ∷ t .«line_space» ∷ t .«scroll_row» ∷ bit (t .wrap) ∷ bit (t .scroll) ∷ []
+    low (t .font) ∷ high (t .font) ∷ low (t .x) ∷ high (t .x) ∷ t .y ∷ t .left ∷ t .top ∷ t .«char_space» ∷ t .«line_space» ∷ t .«scroll_row» ∷ bit (t .wrap) ∷ bit (t .scroll) ∷ []
 
 -- drawing, flow, refusals
 abbrev pub otherBytes : Port → List ℕ
@@ -83,7 +84,7 @@ panelBytes q = manyBytes slotBytes (q .bars) ++ (manyBytes stripBytes (q .strips
 -- ---- the whole
 
 unfoldable pub encodeOf : State → List ℕ
-encodeOf s = portBytes (s .port) ++ (s .height ∷ panelBytes (s .panel))
+encodeOf s = portBytes (s .port) ++ (s .config .height ∷ s .config .edition ∷ panelBytes (s .panel))
 
 -- ---- l written over g from index k on, as far as g goes
 

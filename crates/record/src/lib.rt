@@ -1,4 +1,4 @@
-// The record of 202 bytes in which a caller keeps the state: its layout, and what is read from it.
+// The record of 207 bytes in which a caller keeps the state: its layout, and what is read from it.
 mod reading;
 
 use queue::Flow;
@@ -7,8 +7,9 @@ pub use reading::decode_port;
 use reading::flow_of;
 pub use reading::pair;
 pub use reading::word;
+use state::Config;
 ghost use mathlib.Core.Path.{_≡_};
-ghost use Rattle.record.specs.Reading.{heightIn, decodeOf};
+ghost use Rattle.record.specs.Reading.{heightIn, configIn, decodeOf};
 
 // Where the parts stand. The phase: 0 idle, 1 prefix, 2 gathering, 3 in line, 4 upload.
 pub const PHASE: usize = 0;
@@ -24,59 +25,72 @@ pub const GATHERED: usize = 3;
 // Data in line: x1, y1, x2, y2, done (2).
 pub const INLINE: usize = 9;
 
-// Upload: kind, number, size (2), stored (2), waiting, byte.
+// Upload: sort, number (2), size (2), stored (2), waiting, byte, waited (2).
 pub const UPLOAD: usize = 15;
 
-// Text: font, x (2), y, left, top, char_space, line_space, scroll_row, wrap, scroll.
-pub const TEXT: usize = 23;
+// Text: font (2), x (2), y, left, top, char_space, line_space, scroll_row, wrap, scroll.
+pub const TEXT: usize = 26;
 
 // Drawing: colour (1 black, 0 white), x, y.
-pub const DRAWING: usize = 34;
+pub const DRAWING: usize = 38;
 
 // Flow: on, full, empty.
-pub const FLOW: usize = 37;
+pub const FLOW: usize = 41;
 
-pub const FLOW_FULL: usize = 38;
+pub const FLOW_FULL: usize = 42;
 
-pub const FLOW_EMPTY: usize = 39;
+pub const FLOW_EMPTY: usize = 43;
 
 // Refusals: count (2), last.
-pub const REFUSAL_COUNT: usize = 40;
+pub const REFUSAL_COUNT: usize = 44;
 
-pub const LAST_REFUSAL: usize = 42;
+pub const LAST_REFUSAL: usize = 46;
 
 // The framebuffer's height, in rows.
-pub const HEIGHT: usize = 43;
+pub const HEIGHT: usize = 47;
+
+// The edition of the upload protocol.
+pub const EDITION: usize = 48;
 
 // From here on what belongs to the display.
-pub const PANEL: usize = 44;
+pub const PANEL: usize = 49;
 
 // Sixteen bars: on, kind, x1, y1, x2, y2, value.
-pub const FIRST_BAR: usize = 44;
+pub const FIRST_BAR: usize = 49;
 
 pub const BAR_SIZE: usize = 7;
 
 // Eight strips: on, x1, y1, x2, y2.
-pub const FIRST_STRIP: usize = 156;
+pub const FIRST_STRIP: usize = 161;
 
 pub const STRIP_SIZE: usize = 5;
 
 // Serial: on, a, b.
-pub const SERIAL: usize = 196;
+pub const SERIAL: usize = 201;
 
-pub const CONTRAST: usize = 199;
+pub const CONTRAST: usize = 204;
 
-pub const BACKLIGHT: usize = 200;
+pub const BACKLIGHT: usize = 205;
 
-pub const MINUTES: usize = 201;
+pub const MINUTES: usize = 206;
 
-pub const RECORD: usize = 202;
+pub const RECORD: usize = 207;
 
 // The height that a record says; a short record goes on with zeros.
 pub fn height_in(r: &[u8]) -> u8
     ensures { λ h. ⌜ h ≡ heightIn (now (r .entry)) ⌝ }
 {
     byte_at(r, HEIGHT)
+}
+
+// What the board chose at start.
+pub fn config_in(r: &[u8]) -> Config
+    ensures { λ c. ⌜ c ≡ configIn (now (r .entry)) ⌝ }
+{
+    Config {
+        height: byte_at(r, HEIGHT),
+        edition: byte_at(r, EDITION),
+    }
 }
 
 // Its flow control.

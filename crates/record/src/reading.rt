@@ -26,7 +26,7 @@ ghost use Rattle.record.specs.Layout.{argumentsAt, inlineAt, uploadAt, t
 ghost use Rattle.record.specs.Reading.{inlineOf, uploadOf, phaseOf, argumentsIn, textOf, drawingOf, flowOf, refusalsOf, portOf};
 
 // Bytes of the longest part.
-const LONGEST: usize = 11;
+const LONGEST: usize = 12;
 
 pub fn word(x: u8) -> u16
     ensures { λ r. ⌜ (r ≡ x) × (r < 256) ⌝ }
@@ -51,7 +51,7 @@ pub fn byte_at(r: &[u8], k: usize) -> u8
 // As many bytes from k on as the longest part has, of which the record lacks some.
 fn part_across(r: &[u8], k: usize) -> [u8; LONGEST]
     requires { ⌜ k < recordSize ⌝ }
-    ensures { λ l. ⌜ l ≡ bytesFrom (drop k (now (r .entry))) 0 11 ⌝ }
+    ensures { λ l. ⌜ l ≡ bytesFrom (drop k (now (r .entry))) 0 12 ⌝ }
 {
     let mut l = [0; LONGEST];
     let mut i = 0;
@@ -64,8 +64,8 @@ fn part_across(r: &[u8], k: usize) -> [u8; LONGEST]
 
 // The same where it has them all: no place is asked for.
 fn part_inside(r: &[u8], k: usize) -> [u8; LONGEST]
-    requires { ⌜ (k < recordSize) × (k + 11 ≤ length (now r)) ⌝ }
-    ensures { λ l. ⌜ l ≡ bytesFrom (drop k (now (r .entry))) 0 11 ⌝ }
+    requires { ⌜ (k < recordSize) × (k + 12 ≤ length (now r)) ⌝ }
+    ensures { λ l. ⌜ l ≡ bytesFrom (drop k (now (r .entry))) 0 12 ⌝ }
 {
     let mut l = [0; LONGEST];
     let mut i = 0;
@@ -78,7 +78,7 @@ fn part_inside(r: &[u8], k: usize) -> [u8; LONGEST]
 
 fn part_at(r: &[u8], k: usize) -> [u8; LONGEST]
     requires { ⌜ k < recordSize ⌝ }
-    ensures { λ l. ⌜ l ≡ bytesFrom (drop k (now (r .entry))) 0 11 ⌝ }
+    ensures { λ l. ⌜ l ≡ bytesFrom (drop k (now (r .entry))) 0 12 ⌝ }
 {
     if k + LONGEST <= r.len() {
         part_inside(r, k)
@@ -105,12 +105,13 @@ fn upload_of(r: &[u8]) -> Phase
 {
     let l = part_at(r, UPLOAD);
     Phase::Upload {
-        kind: l[0],
-        number: l[1],
-        size: pair(l[2], l[3]),
-        stored: pair(l[4], l[5]),
-        waiting: l[6] == 1,
-        byte: l[7],
+        sort: l[0],
+        number: pair(l[1], l[2]),
+        size: pair(l[3], l[4]),
+        stored: pair(l[5], l[6]),
+        waiting: l[7] == 1,
+        byte: l[8],
+        waited: pair(l[9], l[10]),
     }
 }
 
@@ -148,16 +149,16 @@ fn text_of(r: &[u8]) -> Text
 {
     let l = part_at(r, TEXT);
     Text {
-        font: l[0],
-        x: pair(l[1], l[2]),
-        y: l[3],
-        left: l[4],
-        top: l[5],
-        char_space: l[6],
-        line_space: l[7],
-        scroll_row: l[8],
-        wrap: l[9] == 1,
-        scroll: l[10] == 1,
+        font: pair(l[0], l[1]),
+        x: pair(l[2], l[3]),
+        y: l[4],
+        left: l[5],
+        top: l[6],
+        char_space: l[7],
+        line_space: l[8],
+        scroll_row: l[9],
+        wrap: l[10] == 1,
+        scroll: l[11] == 1,
     }
 }
 

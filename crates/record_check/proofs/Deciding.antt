@@ -11,10 +11,12 @@ use lib.Seq.{drop-drop, getD-drop}
 use borrow.Author.Tests.{eq-eqb, ne-eqb, eqb-true, not-true, not-false}
 use Rattle.canvas.specs.Sizes.{isHeight}
 use Rattle.queue.specs.Record.{at, bit, bytesFrom}
-use Rattle.state.specs.Soundness.{every, soundPhase, soundText, soundPort, thresholdsFit, soundBar, soundStrip, soundPanel, soundState}
+use Rattle.state.specs.declared.Config.{Config}
+use Rattle.state.specs.Editions.{isEdition}
+use Rattle.state.specs.Soundness.{every, soundPhase, soundText, soundPort, thresholdsFit, soundBar, soundStrip, soundPanel, soundConfig, soundState}
 use Rattle.state.specs.Canonical.{canonicalPhase, canonicalArguments, canonicalPort, canonicalBar, canonicalStrip, canonicalSerial, canonicalPanel, canonicalState}
 use Rattle.record.specs.Layout.{portSize, heightAt, panelAt, panelStrips, panelSerial, panelBacklight, stripsAt, serialAt, backlightAt, recordSize}
-use Rattle.record.specs.Reading.{manyOf, flagAt, phaseOf, argumentsIn, textOf, flowOf, portOf, slotOf, stripOf, panelOf, heightIn, decodeOf}
+use Rattle.record.specs.Reading.{manyOf, flagAt, phaseOf, argumentsIn, textOf, flowOf, portOf, slotOf, stripOf, panelOf, heightIn, editionIn, configIn, decodeOf}
 use Rattle.record.specs.Writing.{manyBytes, gatheringBytes, dataBytes, uploadBytes, textBytes, otherBytes, phaseBytes, portBytes, slotBytes, stripBytes, lastBytes, panelBytes, encodeOf}
 use Rattle.record_check.specs.Parts.{stands, clear, everyOf, phaseStands, phaseHolds, textHolds, otherHolds, portHolds, slotHolds, stripHolds, panelHolds}
 use Rattle.record.specs.Record.{sameBytes, recognised, soundRecord}
@@ -66,21 +68,21 @@ module _ (r : List ℕ) where
       ∙ rw arguments-stand (stands-next (dataBytes (phaseOf r)) (uploadBytes (phaseOf r)) 9 6 r (length-data (phaseOf r))))
 
   port-written : stands (portBytes (portOf r)) 0 r
-      ≡ (stands (phaseBytes (portOf r)) 0 r && (stands (textBytes (textOf (drop 23 r))) 23 r && stands (otherBytes (portOf r)) 34 r))
+      ≡ (stands (phaseBytes (portOf r)) 0 r && (stands (textBytes (textOf (drop 26 r))) 26 r && stands (otherBytes (portOf r)) 38 r))
   unfolding portBytes portOf
   port-written =
-      stands-next (phaseBytes (portOf r)) _ 0 23 r (length-phase (portOf r) refl)
-      ∙ ap (λ (t : Bool). stands (phaseBytes (portOf r)) 0 r && t) (stands-next (textBytes (textOf (drop 23 r))) (otherBytes (portOf r)) 23 11 r refl)
+      stands-next (phaseBytes (portOf r)) _ 0 26 r (length-phase (portOf r) refl)
+      ∙ ap (λ (t : Bool). stands (phaseBytes (portOf r)) 0 r && t) (stands-next (textBytes (textOf (drop 26 r))) (otherBytes (portOf r)) 26 12 r refl)
 
   port-is : portHolds r ≡ (phaseHolds r && (textHolds r && otherHolds r))
   unfolding portHolds phaseStands textHolds otherHolds soundPort canonicalPort portOf
   port-is =
       let p = phaseOf r in
-      let t = textOf (drop 23 r) in
-      ap (λ (x : Bool). soundPort (portOf r) && thresholdsFit (portOf r .flow) && canonicalPort (portOf r) && x)
-      (port-written ∙ ap (λ (x : Bool). x && (stands (textBytes t) 23 r && stands (otherBytes (portOf r)) 34 r)) phase-written)
-      ∙ port-parts (soundPhase p) (soundText t) (thresholdsFit (flowOf (drop 37 r))) (canonicalPhase p) (canonicalArguments p (argumentsIn (drop 3 r))) (stands (gatheringBytes p) 0 r)
-      (stands (dataBytes p) 9 r && stands (uploadBytes p) 15 r) (stands (textBytes t) 23 r) (stands (otherBytes (portOf r)) 34 r)
+      let t = textOf (drop 26 r) in
+      ap (λ (x : Bool). soundPort (editionIn r) (portOf r) && thresholdsFit (portOf r .flow) && canonicalPort (portOf r) && x)
+      (port-written ∙ ap (λ (x : Bool). x && (stands (textBytes t) 26 r && stands (otherBytes (portOf r)) 38 r)) phase-written)
+      ∙ port-parts (soundPhase (editionIn r) p) (soundText t) (thresholdsFit (flowOf (drop 41 r))) (canonicalPhase p) (canonicalArguments p (argumentsIn (drop 3 r))) (stands (gatheringBytes p) 0 r)
+      (stands (dataBytes p) 9 r && stands (uploadBytes p) 15 r) (stands (textBytes t) 26 r) (stands (otherBytes (portOf r)) 38 r)
 
   pub port-text-not : (t : Bool) → t ≡ textHolds r → not t ≡ true → false ≡ portHolds r
   port-text-not t et n = sym (port-is ∙ rw (sym et ∙ not-true t n) (and-false (phaseHolds r)))
@@ -190,10 +192,15 @@ record-parts : (a b c d e u v : Bool) → ((a && b && c && (d && e)) && (u && v)
 record-parts a b false d e u v = rw (and-false (a && b), and-false a)
 record-parts a b true d e u v = rw (and-true (a && b), and-true a, swap a b d e) (swap (a && d) (b && e) u v)
 
--- a the length, k the height
-not-known : (a k p q c d s : Bool) → (a && k) ≡ false → false ≡ (a && (k && p && q) && c && d && s)
-not-known true k p q c d s e = rw e
-not-known false k p q c d s e = refl
+-- the edition, j, in front of all else
+edition-first : (j p q t c s : Bool) → ((j && p && q) && t && c && s) ≡ (j && ((p && q) && t && c && s))
+edition-first true p q t c s = refl
+edition-first false p q t c s = refl
+
+-- a the length, k the height, j the edition
+not-known : (a k j p q c d s : Bool) → (a && k) ≡ false → false ≡ (a && ((k && j) && p && q) && c && d && s)
+not-known true k j p q c d s e = rw e
+not-known false k j p q c d s e = refl
 
 module _ (r : List ℕ) where
   pub recognised-not : (length r ≡ recordSize → ⊥) → false ≡ recognised r
@@ -209,13 +216,13 @@ module _ (r : List ℕ) where
   recognised-long k e f = eqb-true (length r) recordSize (both (eqb (length r) recordSize) (isHeight (heightIn r)) (sym e ∙ not-false k f) .0)
 
   pub not-recognised : (t : Bool) → t ≡ recognised r → not t ≡ true → false ≡ soundRecord r
-  unfolding soundRecord soundState recognised decodeOf
-  not-recognised t e f = not-known (eqb (length r) recordSize) (isHeight (heightIn r)) _ _ _ _ _ (sym e ∙ not-true t f)
+  unfolding soundRecord soundState soundConfig recognised decodeOf
+  not-recognised t e f = not-known (eqb (length r) recordSize) (isHeight (heightIn r)) _ _ _ _ _ _ (sym e ∙ not-true t f)
 
-  -- the height stands where it was read
-  height-stands : (l : List ℕ) → stands (heightIn r ∷ l) heightAt r ≡ stands l panelAt r
+  -- height and edition stand where they were read
+  config-stands : (l : List ℕ) → stands (heightIn r ∷ editionIn r ∷ l) heightAt r ≡ stands l panelAt r
   unfolding stands
-  height-stands l = rw (eq-eqb (heightIn r) (heightIn r) refl)
+  config-stands l = rw (eq-eqb (heightIn r) (heightIn r) refl, eq-eqb (editionIn r) (editionIn r) refl)
 
   written-again : length r ≡ recordSize
       → sameBytes (encodeOf (decodeOf r)) r ≡ (stands (portBytes (portOf r)) 0 r && stands (panelBytes (panelOf (drop panelAt r))) 0 (drop panelAt r))
@@ -223,24 +230,35 @@ module _ (r : List ℕ) where
   written-again n =
       let b = panelBytes (panelOf (drop panelAt r)) in
       stands-same (encodeOf (decodeOf r)) r (length-sized (decodeOf r) (decoded-sized r) ∙ sym n)
-      ∙ stands-next (portBytes (portOf r)) (heightIn r ∷ b) 0 portSize r (length-port (portOf r) (decoded-sized r .args))
-      ∙ ap (λ (t : Bool). stands (portBytes (portOf r)) 0 r && t) (height-stands b ∙ sym (stands-front b panelAt r))
+      ∙ stands-next (portBytes (portOf r)) (heightIn r ∷ editionIn r ∷ b) 0 portSize r (length-port (portOf r) (decoded-sized r .args))
+      ∙ ap (λ (t : Bool). stands (portBytes (portOf r)) 0 r && t) (config-stands b ∙ sym (stands-front b panelAt r))
 
-  -- what is left to ask where the record is recognised
-  record-is : (k : Bool) → k ≡ recognised r → not k ≡ false → soundRecord r ≡ (portHolds r && panelHolds (heightIn r) (drop panelAt r))
-  unfolding soundRecord recognised decodeOf soundState canonicalState portHolds panelHolds
+  -- what is left to ask where the record is recognised: its edition, its port and its panel
+  record-is : (k : Bool) → k ≡ recognised r → not k ≡ false → soundRecord r ≡ (isEdition (editionIn r) && (portHolds r && panelHolds (heightIn r) (drop panelAt r)))
+  unfolding soundRecord recognised decodeOf soundState soundConfig canonicalState portHolds panelHolds
   record-is k ek hk =
       let a = portOf r in
       let b = panelOf (drop panelAt r) in
       let m = drop panelAt r in
+      let j = isEdition (editionIn r) in
+      let p = soundPort (editionIn r) a in
+      let q = soundPanel (heightIn r) b in
       let known = both (eqb (length r) recordSize) (isHeight (heightIn r)) (sym ek ∙ not-false k hk) in
       rw (known .0, known .1)
-      (ap (λ (x : Bool). soundPort a && soundPanel (heightIn r) b && thresholdsFit (a .flow) && canonicalState (decodeOf r) && x) (written-again (eqb-true (length r) recordSize (known .0)))
-      ∙ record-parts (soundPort a) (soundPanel (heightIn r) b) (thresholdsFit (a .flow)) (canonicalPort a) (canonicalPanel b) (stands (portBytes a) 0 r) (stands (panelBytes b) 0 m))
+      (ap (λ (x : Bool). (j && p && q) && thresholdsFit (a .flow) && canonicalState (decodeOf r) && x) (written-again (eqb-true (length r) recordSize (known .0)))
+      ∙ edition-first j p q (thresholdsFit (a .flow)) (canonicalState (decodeOf r)) (stands (portBytes a) 0 r && stands (panelBytes b) 0 m)
+      ∙ ap (λ (x : Bool). j && x) (record-parts p q (thresholdsFit (a .flow)) (canonicalPort a) (canonicalPanel b) (stands (portBytes a) 0 r) (stands (panelBytes b) 0 m)))
 
-  pub record-port-not : (k p : Bool) → k ≡ recognised r → not k ≡ false → p ≡ portHolds r → not p ≡ true → false ≡ soundRecord r
-  record-port-not k p ek hk ep n = sym (record-is k ek hk ∙ rw (sym ep ∙ not-true p n))
+  -- c what the board chose, as it was read
+  module _ (k : Bool) (c : Config) (j : Bool) (ek : k ≡ recognised r) (hk : not k ≡ false) (ec : c ≡ configIn r) (ej : j ≡ isEdition (c .edition)) where
+    edition-is : isEdition (editionIn r) ≡ j
+    edition-is = sym (ej ∙ ap (λ (x : Config). isEdition (x .edition)) ec)
 
-  pub record-holds : (k p : Bool) (h : ℕ) (q : Bool) → k ≡ recognised r → not k ≡ false → p ≡ portHolds r → not p ≡ false → h ≡ heightIn r → q ≡ panelHolds h (drop panelAt r)
-      → q ≡ soundRecord r
-  record-holds k p h q ek hk ep hp eh eq = eq ∙ rw eh (sym (record-is k ek hk ∙ rw (sym ep ∙ not-false p hp)))
+    pub record-edition-not : not j ≡ true → false ≡ soundRecord r
+    record-edition-not n = sym (record-is k ek hk ∙ rw (edition-is ∙ not-true j n))
+
+    pub record-port-not : (p : Bool) → not j ≡ false → p ≡ portHolds r → not p ≡ true → false ≡ soundRecord r
+    record-port-not p hj ep n = sym (record-is k ek hk ∙ rw (edition-is ∙ not-false j hj, sym ep ∙ not-true p n))
+
+    pub record-holds : (p q : Bool) → not j ≡ false → p ≡ portHolds r → not p ≡ false → q ≡ panelHolds (c .height) (drop panelAt r) → q ≡ soundRecord r
+    record-holds p q hj ep hp eq = eq ∙ rw ec (sym (record-is k ek hk ∙ rw (edition-is ∙ not-false j hj, sym ep ∙ not-false p hp)))

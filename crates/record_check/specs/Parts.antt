@@ -10,7 +10,7 @@ use Rattle.state.specs.declared.Phase.{Phase}
 use Rattle.state.specs.Soundness.{soundPhase, soundText, soundPort, thresholdsFit, soundBar, soundStrip, soundPanel}
 use Rattle.state.specs.Canonical.{canonicalPhase, canonicalArguments, canonicalPort, canonicalBar, canonicalStrip, canonicalPanel}
 use Rattle.record.specs.Layout.{phaseAt, argumentsAt, inlineAt, uploadAt, textAt, drawingAt, flowAt}
-use Rattle.record.specs.Reading.{phaseOf, argumentsIn, textOf, flowOf, portOf, slotOf, stripOf, panelOf}
+use Rattle.record.specs.Reading.{phaseOf, argumentsIn, textOf, flowOf, portOf, slotOf, stripOf, panelOf, editionIn}
 use Rattle.record.specs.Writing.{gatheringBytes, dataBytes, uploadBytes, textBytes, otherBytes, portBytes, slotBytes, stripBytes, panelBytes}
 
 -- the bytes l stand in r from index k on
@@ -29,17 +29,17 @@ everyOf one size l (suc n) = one l && everyOf one size (drop size l) n
 
 -- ---- one line
 
--- the phase p with the arguments, part after part
-unfoldable pub phaseStands : Phase → List ℕ → Bool
-phaseStands p r =
-    soundPhase p
+-- the phase p with the arguments, part after part, in edition e
+unfoldable pub phaseStands : ℕ → Phase → List ℕ → Bool
+phaseStands e p r =
+    soundPhase e p
     && canonicalPhase p
     && (stands (gatheringBytes p) phaseAt r
     && (canonicalArguments p (argumentsIn (drop argumentsAt r))
     && (stands (dataBytes p) inlineAt r && stands (uploadBytes p) uploadAt r)))
 
 abbrev pub phaseHolds : List ℕ → Bool
-phaseHolds r = phaseStands (phaseOf r) r
+phaseHolds r = phaseStands (editionIn r) (phaseOf r) r
 
 unfoldable pub textHolds : List ℕ → Bool
 textHolds r = soundText (textOf (drop textAt r)) && stands (textBytes (textOf (drop textAt r))) textAt r
@@ -48,7 +48,7 @@ unfoldable pub otherHolds : List ℕ → Bool
 otherHolds r = thresholdsFit (flowOf (drop flowAt r)) && stands (otherBytes (portOf r)) drawingAt r
 
 unfoldable pub portHolds : List ℕ → Bool
-portHolds r = soundPort (portOf r) && thresholdsFit (portOf r .flow) && canonicalPort (portOf r) && stands (portBytes (portOf r)) phaseAt r
+portHolds r = soundPort (editionIn r) (portOf r) && thresholdsFit (portOf r .flow) && canonicalPort (portOf r) && stands (portBytes (portOf r)) phaseAt r
 
 -- ---- the display
 

@@ -5,6 +5,7 @@ use record::BAR_SIZE;
 use record::CODE;
 use record::CONTRAST;
 use record::DRAWING;
+use record::EDITION;
 use record::FIRST_BAR;
 use record::FIRST_STRIP;
 use record::FLOW;
@@ -82,7 +83,7 @@ fn is_gathering_phase(r: &[u8]) -> bool
     ensures { λ b. ⌜ b ≡ phaseHolds (now (r .entry)) ⌝ }
 {
     let got = r[GOT];
-    let sound = is_gathering(r[CODE], got);
+    let sound = is_gathering(r[EDITION], r[CODE], got);
     let unused = is_clear(r, GATHERED + wide(got), INLINE);
     both(sound, both(unused, is_clear(r, INLINE, TEXT)))
 }
@@ -101,12 +102,20 @@ fn is_upload_phase(r: &[u8]) -> bool
     requires { ⌜ (length (now r) ≡ recordSize) × (at (now r) phaseAt ≡ 4) ⌝ }
     ensures { λ b. ⌜ b ≡ phaseHolds (now (r .entry)) ⌝ }
 {
-    let size = pair_at(r, UPLOAD + 2);
-    let stored = pair_at(r, UPLOAD + 4);
-    let sound = is_upload(r[UPLOAD], size, stored, r[UPLOAD + 6] == 1, r[UPLOAD + 7]);
+    let size = pair_at(r, UPLOAD + 3);
+    let stored = pair_at(r, UPLOAD + 5);
+    let waited = pair_at(r, UPLOAD + 9);
+    let sound = is_upload(
+        r[UPLOAD],
+        size,
+        stored,
+        r[UPLOAD + 7] == 1,
+        r[UPLOAD + 8],
+        waited,
+    );
     both(
         sound,
-        both(is_clear(r, CODE, UPLOAD), is_flag(r, UPLOAD + 6)),
+        both(is_clear(r, CODE, UPLOAD), is_flag(r, UPLOAD + 7)),
     )
 }
 
@@ -135,8 +144,8 @@ fn is_text(r: &[u8]) -> bool
     requires { ⌜ length (now r) ≡ recordSize ⌝ }
     ensures { λ b. ⌜ b ≡ textHolds (now (r .entry)) ⌝ }
 {
-    let flags = both(is_flag(r, TEXT + 9), is_flag(r, TEXT + 10));
-    both(pair_at(r, TEXT + 1) <= 495, flags)
+    let flags = both(is_flag(r, TEXT + 10), is_flag(r, TEXT + 11));
+    both(pair_at(r, TEXT + 2) <= 495, flags)
 }
 
 // Drawing, flow, refusals.

@@ -5,7 +5,9 @@ use canvas::is_height;
 use checking::is_panel;
 use checking::is_port;
 use record::RECORD;
+use record::config_in;
 use record::height_in;
+use state::is_edition;
 ghost use mathlib.Core.Path.{_≡_};
 ghost use Rattle.record.specs.Record.{recognised, soundRecord};
 
@@ -26,8 +28,12 @@ pub fn is_record(r: &[u8]) -> bool
     if !is_recognised(r) {
         return false;
     }
+    let config = config_in(r);
+    if !is_edition(config.edition as u32) {
+        return false;
+    }
     if !is_port(r) {
         return false;
     }
-    is_panel(r, height_in(r))
+    is_panel(r, config.height)
 }

@@ -26,9 +26,9 @@ gathering-written p c g e = rw e
 pub data-written : (p : Phase) (x1 y1 x2 y2 d a b : ℕ) → p ≡ Inline x1 y1 x2 y2 d → a ≡ low d → b ≡ high d → (x1 ∷ y1 ∷ x2 ∷ y2 ∷ a ∷ b ∷ []) ≡ dataBytes p
 data-written p x1 y1 x2 y2 d a b e f g = rw (e, f, g)
 
-pub upload-written : (p : Phase) (k n z s : ℕ) (w : Bool) (b a1 a2 a3 a4 a5 : ℕ) → p ≡ Upload k n z s w b → a1 ≡ low z → a2 ≡ high z → a3 ≡ low s → a4 ≡ high s → a5 ≡ bit w
-    → (k ∷ n ∷ a1 ∷ a2 ∷ a3 ∷ a4 ∷ a5 ∷ b ∷ []) ≡ uploadBytes p
-upload-written p k n z s w b a1 a2 a3 a4 a5 e f1 f2 f3 f4 f5 = rw (e, f1, f2, f3, f4, f5)
+pub upload-written : (p : Phase) (k n z s : ℕ) (w : Bool) (b m n1 n2 z1 z2 s1 s2 w1 m1 m2 : ℕ) → p ≡ Upload k n z s w b m → n1 ≡ low n → n2 ≡ high n → z1 ≡ low z → z2 ≡ high z
+    → s1 ≡ low s → s2 ≡ high s → w1 ≡ bit w → m1 ≡ low m → m2 ≡ high m → (k ∷ n1 ∷ n2 ∷ z1 ∷ z2 ∷ s1 ∷ s2 ∷ w1 ∷ b ∷ m1 ∷ m2 ∷ []) ≡ uploadBytes p
+upload-written p k n z s w b m n1 n2 z1 z2 s1 s2 w1 m1 m2 e a1 a2 b1 b2 c1 c2 d f1 f2 = rw (e, a1, a2, b1, b2, c1, c2, d, f1, f2)
 
 -- ---- part after part
 
@@ -46,13 +46,13 @@ phase-written p g g1 g2 g3 g4 a c d s ea e1 e2 ec e3 ed e4 =
     ∙ over-next middle rest 9 6 g2 g3 (length-data (p .line .phase)) (same-over c _ 9 g2 g3 ec e3)
     ∙ sym (same-over d _ 15 g3 g4 ed e4))
 
-pub port-written : (p : Port) (g g1 g2 g3 t o : List ℕ) → length (p .line .args) ≡ 6 → g1 ≡ over (phaseBytes p) 0 g → t ≡ textBytes (p .text) → g2 ≡ over t 23 g1
-    → o ≡ otherBytes p → g3 ≡ over o 34 g2 → g3 ≡ over (portBytes p) 0 g
+pub port-written : (p : Port) (g g1 g2 g3 t o : List ℕ) → length (p .line .args) ≡ 6 → g1 ≡ over (phaseBytes p) 0 g → t ≡ textBytes (p .text) → g2 ≡ over t 26 g1
+    → o ≡ otherBytes p → g3 ≡ over o 38 g2 → g3 ≡ over (portBytes p) 0 g
 unfolding portBytes
 port-written p g g1 g2 g3 t o s e1 et e2 eo e3 =
-    sym (over-next (phaseBytes p) (textBytes (p .text) ++ otherBytes p) 0 23 g g1 (length-phase p s) e1
-    ∙ over-next (textBytes (p .text)) (otherBytes p) 23 11 g1 g2 refl (same-over t _ 23 g1 g2 et e2)
-    ∙ sym (same-over o _ 34 g2 g3 eo e3))
+    sym (over-next (phaseBytes p) (textBytes (p .text) ++ otherBytes p) 0 26 g g1 (length-phase p s) e1
+    ∙ over-next (textBytes (p .text)) (otherBytes p) 26 12 g1 g2 refl (same-over t _ 26 g1 g2 et e2)
+    ∙ sym (same-over o _ 38 g2 g3 eo e3))
 
 -- w, of the size of a port, is written and then put over g
 pub port-short : (p : Port) (g g1 w w1 : List ℕ) → length (p .line .args) ≡ 6 → length w ≡ portSize → w1 ≡ over (portBytes p) 0 w → g1 ≡ over w1 0 g → g1 ≡ over (portBytes p) 0 g
@@ -66,14 +66,14 @@ panel-written q g g1 g2 g3 l s z e1 e2 el e3 =
     ∙ over-next (manyBytes stripBytes (q .strips)) (lastBytes q) stripsAt 40 g1 g2 (length-strips q z) e2
     ∙ sym (same-over l _ serialAt g2 g3 el e3))
 
-all-written : (s : State) (g : List ℕ) → Sized s → over (portBytes (s .port) ++ (s .height ∷ panelBytes (s .panel))) 0 g ≡ encodedIn s g
+all-written : (s : State) (g : List ℕ) → Sized s → over (portBytes (s .port) ++ (s .config .height ∷ s .config .edition ∷ panelBytes (s .panel))) 0 g ≡ encodedIn s g
 unfolding encodeOf encodedIn
 all-written s g z = over-front (encodeOf s) g ∙ ap (λ (n : ℕ). take (length g) (encodeOf s) ++ drop n g) (length-sized s z)
 
-pub state-written : (s : State) (g g1 g2 g3 : List ℕ) → Sized s → g1 ≡ over (portBytes (s .port)) 0 g → g2 ≡ over (s .height ∷ []) heightAt g1
+pub state-written : (s : State) (g g1 g2 g3 : List ℕ) → Sized s → g1 ≡ over (portBytes (s .port)) 0 g → g2 ≡ over (s .config .height ∷ s .config .edition ∷ []) heightAt g1
     → g3 ≡ over (panelBytes (s .panel)) panelAt g2 → g3 ≡ encodedIn s g
 state-written s g g1 g2 g3 z e1 e2 e3 =
     e3
-    ∙ sym (over-next (portBytes (s .port)) (s .height ∷ panelBytes (s .panel)) 0 portSize g g1 (length-port (s .port) (z .args)) e1
-    ∙ over-next (s .height ∷ []) (panelBytes (s .panel)) heightAt 1 g1 g2 refl e2)
+    ∙ sym (over-next (portBytes (s .port)) (s .config .height ∷ s .config .edition ∷ panelBytes (s .panel)) 0 portSize g g1 (length-port (s .port) (z .args)) e1
+    ∙ over-next (s .config .height ∷ s .config .edition ∷ []) (panelBytes (s .panel)) heightAt 2 g1 g2 refl e2)
     ∙ all-written s g z

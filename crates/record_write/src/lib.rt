@@ -14,6 +14,7 @@ use record::UPLOAD;
 use state::ARGUMENTS;
 use state::BARS;
 use state::BarSlot;
+use state::Config;
 use state::Panel;
 use state::Phase;
 use state::Port;
@@ -100,12 +101,13 @@ fn gathering_bytes(phase: Phase) -> [u8; 3]
             done: _,
         } => [3, 0, 0],
         Phase::Upload {
-            kind: _,
+            sort: _,
             number: _,
             size: _,
             stored: _,
             waiting: _,
             byte: _,
+            waited: _,
         } => [4, 0, 0],
     }
 }
@@ -126,20 +128,21 @@ fn data_bytes(phase: Phase) -> [u8; 6]
             done,
         } => [x1, y1, x2, y2, low(done), high(done)],
         Phase::Upload {
-            kind: _,
+            sort: _,
             number: _,
             size: _,
             stored: _,
             waiting: _,
             byte: _,
+            waited: _,
         } => none,
     }
 }
 
-fn upload_bytes(phase: Phase) -> [u8; 8]
+fn upload_bytes(phase: Phase) -> [u8; 11]
     ensures { λ r. ⌜ r ≡ uploadBytes phase ⌝ }
 {
-    let none = [0, 0, 0, 0, 0, 0, 0, 0];
+    let none = [0, 0, 0, 0, 0, 0, 0, 0, 0, 0, 0];
     match phase {
         Phase::Idle => none,
         Phase::Prefix => none,
@@ -152,30 +155,35 @@ fn upload_bytes(phase: Phase) -> [u8; 8]
             done: _,
         } => none,
         Phase::Upload {
-            kind,
+            sort,
             number,
             size,
             stored,
             waiting,
             byte,
+            waited,
         } => [
-            kind,
-            number,
+            sort,
+            low(number),
+            high(number),
             low(size),
             high(size),
             low(stored),
             high(stored),
             bit(waiting),
             byte,
+            low(waited),
+            high(waited),
         ],
     }
 }
 
-fn text_bytes(t: Text) -> [u8; 11]
+fn text_bytes(t: Text) -> [u8; 12]
     ensures { λ r. ⌜ r ≡ textBytes t ⌝ }
 {
     [
-        t.font,
+        low(t.font),
+        high(t.font),
         low(t.x),
         high(t.x),
         t.y,
@@ -256,10 +264,11 @@ pub fn encode_port(port: Port, out: &mut [u8])
     put(out, PHASE, &whole);
 }
 
-fn encode_height(height: u8, out: &mut [u8])
-    ensures { λ _. ⌜ now (out .exit) ≡ over (height ∷ []) heightAt (now (out .entry)) ⌝ }
+// Height and edition.
+fn encode_config(config: Config, out: &mut [u8])
+    ensures { λ _. ⌜ now (out .exit) ≡ over (config .height ∷ config .edition ∷ []) heightAt (now (out .entry)) ⌝ }
 {
-    put(out, HEIGHT, &[height]);
+    put(out, HEIGHT, &[config.height, config.edition]);
 }
 
 fn slot_bytes(s: BarSlot) -> [u8; BAR_SIZE]
@@ -338,6 +347,7 @@ pub fn encode(s: State, out: &mut [u8])
     let port = s.port;
     let panel = s.panel;
     encode_port(port, out);
-    encode_height(s.height, out);
+    let config = s.config;
+    encode_config(config, out);
     encode_panel(panel, out);
 }

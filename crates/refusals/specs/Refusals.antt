@@ -31,7 +31,7 @@ noSuchFile = 22
 abbrev pub malformedFile : ℕ
 malformedFile = 23
 
--- size 0, 63 files, or more than the file area has unused
+-- size 0, more than 255 bytes of records, or more than the file area has unused
 abbrev pub noSpace : ℕ
 noSpace = 24
 

@@ -1,12 +1,12 @@
--- Every byte obeys its event, and so demand 3 holds of every stream of bytes.
+-- Every input obeys its event, and so demand 3 holds of every stream.
 -- Assumes nothing.
-use mathlib.Core.Path.{_≡_, refl, _∙_}
+use mathlib.Core.Path.{_≡_, refl, subst, _∙_}
 use mathlib.Core.Bool.{Bool, true, false, cond}
 use mathlib.Core.List.{List, []}
-use Prim.Native.Nat.{ℕ, _+_, _*_}
+use Prim.Native.Nat.{ℕ, _+_}
 use lib.Dec.{eqb, ltb}
-use lib.ListN.{length, set}
-use Rattle.bar_ledger.specs.Ledger.{Event}
+use lib.ListN.{length}
+use Rattle.bar_ledger.specs.Ledger.{Event, quiet}
 use Rattle.bar_ledger.specs.Claim.{Agrees}
 use Rattle.bar_ledger.proofs.Keep.{Obeys, barBy}
 use Rattle.bar_ledger.proofs.Theorem.{agrees}
@@ -15,14 +15,15 @@ use Rattle.state.specs.declared.Command.the-variants.{Unknown, Clear, Home, Set
 use Rattle.state.specs.declared.Phase.{Phase}
 use Rattle.state.specs.declared.Phase.the-variants.{Idle, Prefix, Gathering, Inline, Upload}
 use Rattle.state.specs.Commands.{commandOf, argumentsOf}
-use Rattle.rules.specs.World.{World, port, panel, Outcome, done, refused, arg}
+use Rattle.rules.specs.World.{World, edition, port, panel, Outcome, done, refused, arg}
+use Rattle.rules.specs.Numbers.{numberBytes, numberAt, sizeIn}
 use Rattle.rules.specs.Drawing.{setColour}
 use Rattle.rules.specs.Settings.{flowOff, setContrast, backlightOn, backlightOff}
-use Rattle.rules.specs.Step.{obey, outside, code, noBitmap, argument, alone, byPhase, outcome, refuse, after, step}
+use Rattle.rules.specs.Step.{obey, outside, code, gathered, highBitmap, noBitmap, argument, alone, byPhase, waits, Input, byte, time, outcome, refuse, after, step}
 use Rattle.rules.specs.Sound.{Shaped}
 use Rattle.rules.specs.Events.{view, meaning, meant, unlessRefused, event}
-use Rattle.rules.proofs.Obeying.{Obeying, fair-quiet}
-use Rattle.rules.proofs.ByCommand.{clear-obeys, pixel-obeys, line-obeys, frame-obeys, solid-obeys, set-up-obeys, write-obeys, strip-obeys, shift-obeys, bitmap-obeys, corners-obey, inline-obeys, choose-obeys, place-obeys, character-obeys, upload-obeys, data-obeys, delete-obeys, purge-obeys, flow-obeys, serial-obeys}
+use Rattle.rules.proofs.Obeying.{Obeying, passes, fair-quiet}
+use Rattle.rules.proofs.ByCommand.{clear-obeys, pixel-obeys, line-obeys, frame-obeys, solid-obeys, set-up-obeys, write-obeys, strip-obeys, shift-obeys, bitmap-obeys, corners-obey, inline-obeys, choose-obeys, place-obeys, character-obeys, upload-obeys, data-obeys, waits-obeys, delete-obeys, purge-obeys, flow-obeys, serial-obeys}
 
 commands : (c : Command) (a : List ℕ) (w : World) → Shaped w → Obeying (outside w) (meaning c a w) (obey c a (outside w))
 unfolding obey meaning setColour flowOff setContrast backlightOn backlightOff
@@ -35,7 +36,7 @@ commands WrapOn a w s = fair-quiet (outside w) _ refl refl refl refl
 commands WrapOff a w s = fair-quiet (outside w) _ refl refl refl refl
 commands ScrollOn a w s = fair-quiet (outside w) _ refl refl refl refl
 commands ScrollOff a w s = fair-quiet (outside w) _ refl refl refl refl
-commands ChooseFont a w s = choose-obeys (outside w) (arg a 0)
+commands ChooseFont a w s = choose-obeys (outside w) (numberAt (edition w) a 0)
 commands SetMetrics a w s = fair-quiet (outside w) _ refl refl refl refl
 commands SetColour a w s = fair-quiet (outside w) _ refl refl refl refl
 commands DrawPixel a w s = pixel-obeys (outside w) (arg a 0) (arg a 1)
@@ -47,11 +48,11 @@ commands SetUpBar a w s = set-up-obeys (outside w) (arg a 0) (arg a 1) (arg a 2)
 commands WriteBar a w s = write-obeys (outside w) (arg a 0) (arg a 1) s
 commands SetUpStrip a w s = strip-obeys (outside w) (arg a 0) (arg a 1) (arg a 2) (arg a 3) (arg a 4)
 commands ShiftStrip a w s = shift-obeys (outside w) (arg a 0)
-commands ShowBitmap a w s = bitmap-obeys (outside w) (arg a 0) (arg a 1) (arg a 2)
+commands ShowBitmap a w s = bitmap-obeys (outside w) (numberAt (edition w) a 0) (arg a (numberBytes (edition w))) (arg a (numberBytes (edition w) + 1))
 commands DrawInline a w s = corners-obey (outside w) (arg a 0) (arg a 1) (arg a 2) (arg a 3)
-commands UploadFont a w s = upload-obeys (outside w) 1 (arg a 0) (arg a 1 + 256 * arg a 2)
-commands UploadBitmap a w s = upload-obeys (outside w) 2 (arg a 0) (arg a 1 + 256 * arg a 2)
-commands DeleteFile a w s = delete-obeys (outside w) (arg a 0) (arg a 1)
+commands UploadFont a w s = upload-obeys (outside w) 1 (numberAt (edition w) a 0) (sizeIn (edition w) a)
+commands UploadBitmap a w s = upload-obeys (outside w) 2 (numberAt (edition w) a 0) (sizeIn (edition w) a)
+commands DeleteFile a w s = delete-obeys (outside w) (arg a 0) (numberAt (edition w) a 1)
 commands Purge a w s = purge-obeys (outside w) (arg a 0) (arg a 1)
 commands FlowOn a w s = flow-obeys (outside w) (arg a 0) (arg a 1)
 commands FlowOff a w s = fair-quiet (outside w) _ refl refl refl refl
@@ -76,13 +77,13 @@ both w false e f o p h k = k refl
 code-obeys : (w : World) (b : ℕ) → Shaped w → Obeying w (meant Prefix w b) (code w b)
 unfolding meant code
 code-obeys w b s =
-    both w (eqb (argumentsOf (commandOf b)) 0) _ _ _ _ (λ _. obey-fair (commandOf b) [] w s) (λ _. fair-quiet w _ refl refl refl refl)
+    both w (eqb (argumentsOf (edition w) (commandOf b)) 0) _ _ _ _ (λ _. obey-fair (commandOf b) [] w s) (λ _. fair-quiet w _ refl refl refl refl)
 
 argument-obeys : (w : World) (c g b : ℕ) → Shaped w → Obeying w (meant (Gathering c g) w b) (argument w c g b)
 unfolding meant argument
 argument-obeys w c g b s =
-    both w (noBitmap w c g b) _ _ _ _ (λ _. tt)
-    (λ _. both w (ltb (g + 1) (argumentsOf (commandOf c))) _ _ _ _ (λ _. fair-quiet w _ refl refl refl refl) (λ _. obey-fair (commandOf c) (set (port w .line .args) g b) w s))
+    passes w _ (highBitmap w c g b) 19 _ (λ _. passes w _ (noBitmap w c g b) 22 _ (λ _.
+    both w (ltb (g + 1) (argumentsOf (edition w) (commandOf c))) _ _ _ _ (λ _. fair-quiet w _ refl refl refl refl) (λ _. obey-fair (commandOf c) (gathered w g b) w s)))
 
 alone-obeys : (w : World) (b : ℕ) → Obeying w (meant Idle w b) (alone w b)
 unfolding meant alone
@@ -94,7 +95,25 @@ phase-obeys Idle w b s = alone-obeys w b
 phase-obeys Prefix w b s = code-obeys w b s
 phase-obeys (Gathering code got) w b s = argument-obeys w code got b s
 phase-obeys (Inline x1 y1 x2 y2 came) w b s = inline-obeys w x1 y1 x2 y2 came b
-phase-obeys (Upload kind number size stored waiting byte) w b s = data-obeys w kind number size stored waiting byte b
+phase-obeys (Upload sort number size stored waiting held waited) w b s = data-obeys w sort number size stored waiting held b
+
+-- time paints nothing
+time-obeys : (p : Phase) (w : World) (ms : ℕ) → Obeying w quiet (waits p w ms)
+unfolding waits
+time-obeys Idle w ms = fair-quiet w w refl refl refl refl
+time-obeys Prefix w ms = fair-quiet w w refl refl refl refl
+time-obeys (Gathering code got) w ms = fair-quiet w w refl refl refl refl
+time-obeys (Inline x1 y1 x2 y2 came) w ms = fair-quiet w w refl refl refl refl
+time-obeys (Upload sort number size stored waiting held waited) w ms = waits-obeys w sort number size stored waiting held waited ms
+
+-- what an input means, were it not refused
+abbrev pub meansOf : World → Input → Event
+meansOf w (byte b) = meant (port w .line .phase) w b
+meansOf w (time ms) = quiet
+
+pub input-obeys : (w : World) (i : Input) → Shaped w → Obeying w (meansOf w i) (outcome w i)
+input-obeys w (byte b) s = phase-obeys (port w .line .phase) w b s
+input-obeys w (time ms) s = time-obeys (port w .line .phase) w ms
 
 -- ---- a step
 
@@ -108,13 +127,20 @@ unfolding after refuse barBy
 stepped w e (done v r) f = record { obeys = f .obeys; bars = f .bars; strips = f .strips }
 stepped w e (refused n r) f = record { obeys = record { paints = refl; bars = λ i. refl }; bars = refl; strips = refl }
 
-pub byte-steps : (w : World) (b : ℕ) → Shaped w → Stepped w (event w b) (step w b)
+quiet-always : (o : Outcome) → unlessRefused o quiet ≡ quiet
+quiet-always (done v r) = refl
+quiet-always (refused n r) = refl
+
+pub input-steps : (w : World) (i : Input) → Shaped w → Stepped w (event w i) (step w i)
 unfolding event step
-byte-steps w b s = stepped w (meant (port w .line .phase) w b) (outcome w b) (phase-obeys (port w .line .phase) w b s)
+input-steps w (byte b) s = stepped w (meansOf w (byte b)) (outcome w (byte b)) (input-obeys w (byte b) s)
+input-steps w (time ms) s =
+    let o = outcome w (time ms) in
+    subst (λ (e : Event). Stepped w e (after w o)) (quiet-always o) (stepped w quiet o (input-obeys w (time ms) s))
 
-pub shaped-step : (w : World) (b : ℕ) → Shaped w → Shaped (step w b)
-shaped-step w b s = byte-steps w b s .bars ∙ s
+pub shaped-step : (w : World) (i : Input) → Shaped w → Shaped (step w i)
+shaped-step w i s = input-steps w i s .bars ∙ s
 
--- DEMAND 3, of the rules: from any world with sixteen bars, after every byte of every stream
-pub demand-3 : (w : World) → Shaped w → (l : List ℕ) → Agrees view step event w l
-demand-3 w s l = agrees view step event Shaped shaped-step (λ v b t. byte-steps v b t .obeys) w s l
+-- DEMAND 3, of the rules: from any world with sixteen bars, after every input of every stream
+pub demand-3 : (w : World) → Shaped w → (l : List Input) → Agrees view step event w l
+demand-3 w s l = agrees view step event Shaped shaped-step (λ v i t. input-steps v i t .obeys) w s l

@@ -25,14 +25,16 @@ use Rattle.directory.specs.declared.Found.the-variants.{At, Nothing}
 use Rattle.directory.specs.Directory.{findOf, entries, hasFile}
 use Rattle.opened_font.specs.Glyphs.{glyphOf}
 use Rattle.fonts.specs.Bitmaps.{isBitmap, bitmapWidth, bitmapHeight}
+use Rattle.state.specs.Editions.{patience}
 use Rattle.state.specs.State.{barOf, barAt, stripAt, strip}
-use Rattle.rules.specs.World.{World, height, port, panel}
+use Rattle.rules.specs.World.{World, height, edition, port, panel}
+use Rattle.rules.specs.Numbers.{tooHigh}
 use Rattle.rules.specs.Fonts.{Opened, opened, shut, openFont}
 use Rattle.rules.specs.Text.{placeX, placeY, Place, place, nowhere, wrapped, fitted, Ink, inked, Drawn, drawn, ignored, drawnBy, drawnAt, drawnOn, characterIn, character, fontChosen, chooseFont, placeIn, setPlace}
 use Rattle.rules.specs.Drawing.{ordered, clear, drawPixel, drawLine, drawFrame, fillRectangle}
 use Rattle.rules.specs.Bars.{inBounds, apart, setUpBar, writeBar, setUpStrip, shiftStrip}
 use Rattle.rules.specs.Pictures.{bitmapIn, bitmapAt, showBitmap, beginInline, inlineData}
-use Rattle.rules.specs.Files.{inUse, lacksSpace, beginUpload, confirmed, uploadData, unchosen, deleteFile, purge}
+use Rattle.rules.specs.Files.{inUse, kindOf, lacksSpace, beginUpload, confirmed, uploadData, uploadWaits, unchosen, deleteFile, purge}
 use Rattle.rules.specs.Settings.{flowOn, setSerial}
 use Rattle.rules.specs.Events.{placeEvent, drawnEvent, fontEvent, characterEvent, bitmapEvent}
 use Rattle.rules.proofs.Obeying.{Fair, Obeying, passes, fair-painted, fair-quiet, fair-set-up, fair-wrote}
@@ -98,7 +100,7 @@ bitmap-at w (At p a z) x y = bitmap-in w (take z (drop a (w .store))) x y
 
 pub bitmap-obeys : (w : World) (n x y : ℕ) → Obeying w (bitmapEvent (w .store) (findOf (w .store) 2 n) x y) (showBitmap w n x y)
 unfolding showBitmap
-bitmap-obeys w n x y = bitmap-at w (findOf (w .store) 2 n) x y
+bitmap-obeys w n x y = passes w _ (tooHigh n) 19 _ (λ _. bitmap-at w (findOf (w .store) 2 n) x y)
 
 pub corners-obey : (w : World) (x1 y1 x2 y2 : ℕ) → Obeying w (painted (rectangle x1 y1 x2 y2)) (beginInline w x1 y1 x2 y2)
 unfolding beginInline
@@ -117,7 +119,7 @@ choice w n (shut r) = tt
 
 pub choose-obeys : (w : World) (n : ℕ) → Obeying w quiet (chooseFont w n)
 unfolding chooseFont
-choose-obeys w n = choice w n (openFont (height w) (w .store) n)
+choose-obeys w n = passes w _ (tooHigh n) 19 _ (λ _. choice w n (openFont (height w) (w .store) n))
 
 placing : (w : World) (c r : ℕ) (o : Opened) → Obeying w quiet (placeIn w c r o)
 unfolding placeIn
@@ -162,8 +164,9 @@ character-obeys w c = in-font w c (openFont (height w) (w .store) (port w .text 
 pub upload-obeys : (w : World) (k n z : ℕ) → Obeying w quiet (beginUpload w k n z)
 unfolding beginUpload
 upload-obeys w k n z =
-    by-test (Obeying w quiet) (inUse (w .store) k n) _ _ (λ _. tt)
-    (λ _. by-test (Obeying w quiet) (lacksSpace (w .store) z) _ _ (λ _. tt) (λ _. fair-quiet w _ refl refl refl refl))
+    by-test (Obeying w quiet) (tooHigh n) _ _ (λ _. tt) (λ _.
+    by-test (Obeying w quiet) (inUse (w .store) k n) _ _ (λ _. tt) (λ _.
+    by-test (Obeying w quiet) (lacksSpace (w .store) (kindOf (edition w) k) z) _ _ (λ _. tt) (λ _. fair-quiet w _ refl refl refl refl)))
 
 confirmed-fair : (w : World) (k n z s c : ℕ) → Fair w quiet (confirmed w k n z s c)
 confirmed-fair w k n z s c =
@@ -174,6 +177,10 @@ unfolding uploadData
 data-obeys w k n z s false c b = fair-quiet w _ refl refl refl refl
 data-obeys w k n z s true c b = passes w _ (not (eqb b 1)) 26 _ (λ _. confirmed-fair w k n z s c)
 
+pub waits-obeys : (w : World) (k n z s : ℕ) (v : Bool) (c t ms : ℕ) → Obeying w quiet (uploadWaits w k n z s v c t ms)
+unfolding uploadWaits
+waits-obeys w k n z s v c t ms = by-test (Obeying w quiet) (leb patience (t + ms)) _ _ (λ _. tt) (λ _. fair-quiet w _ refl refl refl refl)
+
 unchosen-fair : (w v : World) (k n : ℕ) → v .framebuffer ≡ w .framebuffer → panel v ≡ panel w → port v .refusals ≡ port w .refusals → Fair w quiet (unchosen v k n)
 unchosen-fair w v k n s p r =
     by-test (Fair w quiet) (eqb k 1 && eqb n (port v .text .font)) _ _ (λ _. fair-quiet w _ (rw p) (rw p) r s) (λ _. fair-quiet w v (rw p) (rw p) r s)
@@ -181,7 +188,7 @@ unchosen-fair w v k n s p r =
 pub delete-obeys : (w : World) (t n : ℕ) → Obeying w quiet (deleteFile w t n)
 unfolding deleteFile
 delete-obeys w t n =
-    passes w _ (leb 2 t) 20 _ (λ _. passes w _ (not (hasFile (entries (w .store)) (t + 1) n)) 22 _ (λ _. unchosen-fair w _ (t + 1) n refl refl refl))
+    passes w _ (leb 2 t) 20 _ (λ _. passes w _ (tooHigh n) 19 _ (λ _. passes w _ (not (hasFile (entries (w .store)) (t + 1) n)) 22 _ (λ _. unchosen-fair w _ (t + 1) n refl refl refl)))
 
 pub purge-obeys : (w : World) (a b : ℕ) → Obeying w quiet (purge w a b)
 unfolding purge

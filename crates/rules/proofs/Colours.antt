@@ -11,7 +11,7 @@ use Rattle.pixels.specs.Regions.{rectangle, within}
 use Rattle.pixels.proofs.Painting.{pixel-put}
 use Rattle.rectangle.specs.Frame.{frame}
 use Rattle.state.specs.declared.Command.the-variants.{DrawFrame, FillRectangle}
-use Rattle.state.specs.State.{startState}
+use Rattle.state.specs.State.{config, startState}
 use Rattle.state.specs.Commands.{commandOf}
 use Rattle.rules.specs.World.{World, world, port}
 use Rattle.rules.specs.Drawing.{ordered, setColour, drawFrame, fillRectangle}
@@ -41,7 +41,7 @@ abbrev row : ℕ → List ℕ
 row b = b ∷ replicate 29 0
 
 abbrev held : World
-held = world (row 15) (replicate 1024 0) (startState 1)
+held = world (row 15) (replicate 1024 0) (startState (config 1 1))
 
 -- 254 is no prefix where a colour byte is due
 abbrev bytes : List ℕ

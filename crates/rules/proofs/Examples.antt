@@ -11,18 +11,18 @@ use Rattle.state.specs.declared.Phase.{Phase}
 use Rattle.state.specs.declared.Phase.the-variants.{Idle, Inline}
 use Rattle.state.specs.declared.Text.{Text}
 use Rattle.bar_graph.specs.Bars.{lengthOf, heldTo}
-use Rattle.state.specs.State.{startState, barAt}
+use Rattle.state.specs.State.{config, startState, barAt}
 use Rattle.state.specs.Commands.{commandOf}
 use Rattle.rules.specs.World.{World, world, port, panel, refused}
 use Rattle.rules.specs.Text.{place, nowhere, placeNumber, textOf, wrapped, fitted}
 use Rattle.rules.specs.Bars.{setUpBar, writeBar, setUpStrip, shiftStrip}
-use Rattle.rules.specs.Files.{beginUpload, uploadData, deleteFile, purge}
+use Rattle.rules.specs.Files.{lacksSpace, beginUpload, uploadData, deleteFile, purge}
 use Rattle.rules.specs.Pictures.{inlineData}
 use Rattle.rules.specs.Settings.{flowOn}
 use Rattle.rules.specs.Step.{obey, code, argument, after}
 
 abbrev pub blank : World
-blank = world (replicate 240 0) (replicate 1024 0) (startState 8)
+blank = world (replicate 240 0) (replicate 1024 0) (startState (config 8 1))
 
 -- THE ORDER OF REFUSALS: everything wrong, then one thing less each time
 pub bar-order : (setUpBar blank 16 4 240 8 0 0 ≡ refused 19 []) × (setUpBar blank 15 4 240 8 0 0 ≡ refused 20 []) × (setUpBar blank 15 3 240 8 0 0 ≡ refused 17 [])
@@ -41,7 +41,7 @@ strip-number = (refl, refl, refl)
 
 -- font 1 is in use whatever the store has; both refusals are told
 pub upload-order : (beginUpload blank 1 1 0 ≡ refused 25 (8 ∷ [])) × (beginUpload blank 2 1 0 ≡ refused 24 (8 ∷ []))
-unfolding beginUpload hasFile entriesFrom readFrom stepAt directory.lengthOf
+unfolding beginUpload lacksSpace hasFile entriesFrom readFrom stepAt directory.lengthOf directory.sortOf
 upload-order = (refl, refl)
 
 -- a byte in the place of a confirmation ends the upload
@@ -50,7 +50,7 @@ unfolding uploadData
 upload-broken = refl
 
 pub delete-order : (deleteFile blank 2 1 ≡ refused 20 []) × (deleteFile blank 0 1 ≡ refused 22 [])
-unfolding deleteFile hasFile entriesFrom readFrom stepAt directory.lengthOf
+unfolding deleteFile hasFile entriesFrom readFrom stepAt directory.lengthOf directory.sortOf
 delete-order = (refl, refl)
 
 -- both purge bytes are looked at; thresholds that sum to 80 are too many
@@ -60,7 +60,7 @@ limits = (refl, refl, refl)
 
 -- a second 254 is an unknown code; a bitmap that is not there ends its command at the number
 pub early-ends : (code blank 254 ≡ refused 16 []) × (argument blank 98 0 7 ≡ refused 22 [])
-unfolding code argument obey commandOf hasFile entriesFrom readFrom stepAt directory.lengthOf
+unfolding code argument obey commandOf hasFile entriesFrom readFrom stepAt directory.lengthOf directory.sortOf
 early-ends = (refl, refl)
 
 -- A CHARACTER'S PLACE: up to column 240 it stays; then the next line, the framebuffer moved up, or the top; and no room is known before anything moves

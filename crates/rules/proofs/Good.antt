@@ -1,4 +1,4 @@
--- A good world by its parts: what is good of each part that a command puts anew, with the height and the length of the store beside them; both directions.
+-- A good world by its parts: what is good of each part that a command puts anew, with the board's choice and the length of the store beside them; both directions.
 -- Assumes nothing.
 use mathlib.Core.Path.{_≡_, refl}
 use mathlib.Core.Bool.{Bool, true, false}
@@ -9,8 +9,8 @@ use lib.Dec.{leb}
 use lib.ListN.{length, getD}
 use borrow.Author.Tests.{leb-true, ltb-true, le-leb, lt-ltb}
 use Rattle.refusals.specs.Refusals.{Given}
-use Rattle.canvas.specs.Sizes.{isHeight}
 use Rattle.pixels.proofs.Tests.{by-test}
+use Rattle.canvas.specs.Sizes.{isHeight}
 use Rattle.queue.specs.declared.Flow.{Flow}
 use Rattle.queue.specs.Record.{Bytes}
 use Rattle.directory.specs.Directory.{validOf}
@@ -24,22 +24,25 @@ use Rattle.state.specs.declared.BarSlot.{BarSlot}
 use Rattle.state.specs.declared.Strip.{Strip}
 use Rattle.state.specs.declared.Serial.{Serial}
 use Rattle.state.specs.declared.Panel.{Panel}
+use Rattle.state.specs.declared.Config.{Config}
 use Rattle.state.specs.State.{noBar, noStrip, withPhase, withDrawing, withFlow, withRefusals, withBars, withStrips}
-use Rattle.state.specs.Soundness.{every, soundPhase, soundText, soundPort, soundBar, soundStrip, soundPanel, soundState, thresholdsFit}
+use Rattle.state.specs.Editions.{isEdition}
+use Rattle.state.specs.Soundness.{every, soundPhase, soundText, soundPort, soundBar, soundStrip, soundPanel, soundConfig, soundState, thresholdsFit}
 use Rattle.state.specs.Canonical.{canonicalPhase, canonicalArguments, canonicalPort, canonicalBar, canonicalStrip, canonicalSerial, canonicalPanel, canonicalState}
-use Rattle.state.specs.Fits.{PhaseFits, ArgsFit, TextFits, DrawingFits, FlowFits, RefusalsFit, PortFits, BarFits, StripFits, SerialFits, PanelFits}
-use Rattle.rules.specs.World.{World, height, port, panel, withFramebuffer, withStore, withPort, withPanel, putText, Outcome, done, refused, refuseIf}
+use Rattle.state.specs.Fits.{PhaseFits, ArgsFit, TextFits, DrawingFits, FlowFits, RefusalsFit, PortFits, BarFits, StripFits, SerialFits, PanelFits, ConfigFits}
+use Rattle.rules.specs.World.{World, height, edition, port, panel, withFramebuffer, withStore, withPort, withPanel, putText, Outcome, done, refused, refuseIf}
 use Rattle.rules.specs.Sound.{Welcome, Good}
 
 -- ---- the parts
 
-pub record PhaseGood (p : Phase) (a s : List ℕ) : Type 0 where
-  pub sound : soundPhase p ≡ true
+-- in edition e
+pub record PhaseGood (e : ℕ) (p : Phase) (a s : List ℕ) : Type 0 where
+  pub sound : soundPhase e p ≡ true
   pub canonical : canonicalPhase p ≡ true
   pub zeros : canonicalArguments p a ≡ true
   pub fits : PhaseFits p
   pub args : ArgsFit a
-  pub welcome : Welcome p s
+  pub welcome : Welcome e p s
 
 -- the text point is at most at column 495
 pub record TextGood (t : Text) : Type 0 where
@@ -50,8 +53,8 @@ pub record FlowGood (f : Flow) : Type 0 where
   pub sum : f .full + f .empty < 80
   pub fits : FlowFits f
 
-pub record PortGood (p : Port) (s : List ℕ) : Type 0 where
-  pub phase : PhaseGood (p .line .phase) (p .line .args) s
+pub record PortGood (e : ℕ) (p : Port) (s : List ℕ) : Type 0 where
+  pub phase : PhaseGood e (p .line .phase) (p .line .args) s
   pub text : TextGood (p .text)
   pub drawing : DrawingFits (p .drawing)
   pub flow : FlowGood (p .flow)
@@ -86,24 +89,24 @@ pub record StoreGood (m : ℕ) (s : List ℕ) : Type 0 where
   pub valid : validOf s ≡ true
   pub long : length s ≡ m
 
--- n rows
-pub record HeightGood (n h : ℕ) : Type 0 where
-  pub same : h ≡ n
-  pub known : isHeight n ≡ true
-  pub fits : n < 256
+-- c is what was chosen at start
+pub record ConfigGood (c d : Config) : Type 0 where
+  pub same : d ≡ c
+  pub known : soundConfig d ≡ true
+  pub fits : ConfigFits d
 
-pub record Parts (n m : ℕ) (w : World) : Type 0 where
-  pub height : HeightGood n (height w)
-  pub port-good : PortGood (port w) (w .store)
-  pub panel-good : PanelGood n (panel w)
+pub record Parts (c : Config) (m : ℕ) (w : World) : Type 0 where
+  pub config : ConfigGood c (w .state .config)
+  pub port-good : PortGood (edition w) (port w) (w .store)
+  pub panel-good : PanelGood (height w) (panel w)
   pub store : StoreGood m (w .store)
   pub framebuffer : Bytes (w .framebuffer)
 
 -- ---- from a good world to its parts
 
-port-parts : (p : Port) (s : List ℕ) → soundPort p ≡ true → thresholdsFit (p .flow) ≡ true → canonicalPort p ≡ true → PortFits p → Welcome (p .line .phase) s → PortGood p s
+port-parts : (e : ℕ) (p : Port) (s : List ℕ) → soundPort e p ≡ true → thresholdsFit (p .flow) ≡ true → canonicalPort p ≡ true → PortFits p → Welcome e (p .line .phase) s → PortGood e p s
 unfolding soundPort soundText canonicalPort
-port-parts p s h t k f u =
+port-parts e p s h t k f u =
     let a = and-both _ _ h in
     let b = and-both (leb (p .text .x) 495) (leb (p .text .y) 255) (a .1) in
     let c = and-both _ _ k in
@@ -129,27 +132,35 @@ panel-parts h q e k f =
       minutes = f .minutes;
     }
 
-pub parts : {w : World} → Good w → Parts (height w) (length (w .store)) w
+pub parts : {w : World} → Good w → Parts (w .state .config) (length (w .store)) w
 unfolding soundState canonicalState
 parts {w} g =
     let s = and-both _ _ (g .sound) in
-    let t = and-both (isHeight (height w)) (soundPort (port w)) (s .0) in
+    let t = and-both (soundConfig (w .state .config)) (soundPort (edition w) (port w)) (s .0) in
     let k = and-both _ _ (g .canonical) in
     record {
-      height = record { same = refl; known = t .0; fits = g .fits .height };
-      port-good = port-parts (port w) (w .store) (t .1) (g .thresholds) (k .0) (g .fits .port) (g .upload);
+      config = record { same = refl; known = t .0; fits = g .fits .config };
+      port-good = port-parts (edition w) (port w) (w .store) (t .1) (g .thresholds) (k .0) (g .fits .port) (g .upload);
       panel-good = panel-parts (height w) (panel w) (s .1) (k .1) (g .fits .panel);
       store = record { bytes = g .store .bytes; valid = g .store .valid; long = refl };
       framebuffer = g .framebuffer;
     }
 
+pub height-known : {c : Config} {m : ℕ} {w : World} → Parts c m w → isHeight (height w) ≡ true
+unfolding soundConfig
+height-known {c} {m} {w} p = and-both (isHeight (height w)) (isEdition (edition w)) (p .config .known) .0
+
+pub edition-known : {c : Config} {m : ℕ} {w : World} → Parts c m w → isEdition (edition w) ≡ true
+unfolding soundConfig
+edition-known {c} {m} {w} p = and-both (isHeight (height w)) (isEdition (edition w)) (p .config .known) .1
+
 -- ---- and from the parts back
 
-port-sound : {p : Port} {s : List ℕ} → PortGood p s → soundPort p ≡ true
+port-sound : {e : ℕ} {p : Port} {s : List ℕ} → PortGood e p s → soundPort e p ≡ true
 unfolding soundPort soundText
-port-sound {p} g = rw (g .phase .sound, le-leb (p .text .x) 495 (g .text .near), le-leb (p .text .y) 255 (omega (arith, g .text .fits .y)))
+port-sound {e} {p} g = rw (g .phase .sound, le-leb (p .text .x) 495 (g .text .near), le-leb (p .text .y) 255 (omega (arith, g .text .fits .y)))
 
-port-canonical : {p : Port} {s : List ℕ} → PortGood p s → canonicalPort p ≡ true
+port-canonical : {e : ℕ} {p : Port} {s : List ℕ} → PortGood e p s → canonicalPort p ≡ true
 unfolding canonicalPort
 port-canonical g = rw (g .phase .canonical) (g .phase .zeros)
 
@@ -161,17 +172,17 @@ panel-canonical : {h : ℕ} {q : Panel} → PanelGood h q → canonicalPanel q �
 unfolding canonicalPanel
 panel-canonical g = rw (g .bars .canonical, g .strips .canonical) (g .serial .canonical)
 
-pub good : {n m : ℕ} {w : World} → Parts n m w → Good w
+pub good : {c : Config} {m : ℕ} {w : World} → Parts c m w → Good w
 unfolding soundState canonicalState
-good {n} {m} {w} p =
+good {c} {m} {w} p =
     let q = p .port-good in
     let r = p .panel-good in
     record {
-      sound = rw (p .height .same, p .height .known, port-sound q) (panel-sound r);
+      sound = rw (p .config .known, port-sound q) (panel-sound r);
       thresholds = lt-ltb (port w .flow .full + port w .flow .empty) 80 (q .flow .sum);
       canonical = rw (port-canonical q) (panel-canonical r);
       fits = record {
-        height = rw (p .height .same) (p .height .fits);
+        config = p .config .fits;
         port = record { phase = q .phase .fits; args = q .phase .args; text = q .text .fits; drawing = q .drawing; flow = q .flow .fits; refusals = q .refusals };
         panel = record { sixteen = r .bars .long; bars = r .bars .fits; eight = r .strips .long; strips = r .strips .fits; serial = r .serial .fits; contrast = r .contrast; minutes = r .minutes };
       };
@@ -182,15 +193,15 @@ good {n} {m} {w} p =
 
 -- ---- a part put anew
 
-module _ {n m : ℕ} {w : World} (p : Parts n m w) where
-  pub put-port : {q : Port} → PortGood q (w .store) → Parts n m (withPort w q)
-  put-port g = record { port-good = g; panel-good = p .panel-good; store = p .store; framebuffer = p .framebuffer; height = p .height }
+module _ {n : Config} {m : ℕ} {w : World} (p : Parts n m w) where
+  pub put-port : {q : Port} → PortGood (edition w) q (w .store) → Parts n m (withPort w q)
+  put-port g = record { port-good = g; panel-good = p .panel-good; store = p .store; framebuffer = p .framebuffer; config = p .config }
 
-  pub put-panel : {q : Panel} → PanelGood n q → Parts n m (withPanel w q)
-  put-panel g = record { port-good = p .port-good; panel-good = g; store = p .store; framebuffer = p .framebuffer; height = p .height }
+  pub put-panel : {q : Panel} → PanelGood (height w) q → Parts n m (withPanel w q)
+  put-panel g = record { port-good = p .port-good; panel-good = g; store = p .store; framebuffer = p .framebuffer; config = p .config }
 
   pub put-framebuffer : {g : List ℕ} → Bytes g → Parts n m (withFramebuffer w g)
-  put-framebuffer g = record { port-good = p .port-good; panel-good = p .panel-good; store = p .store; framebuffer = g; height = p .height }
+  put-framebuffer g = record { port-good = p .port-good; panel-good = p .panel-good; store = p .store; framebuffer = g; config = p .config }
 
   pub put-text : {t : Text} → TextGood t → Parts n m (putText w t)
   put-text g = let q = p .port-good in put-port (record { phase = q .phase; text = g; drawing = q .drawing; flow = q .flow; refusals = q .refusals })
@@ -204,17 +215,17 @@ module _ {n m : ℕ} {w : World} (p : Parts n m w) where
   pub put-refusals : {r : Refusals} → RefusalsFit r → Parts n m (withPort w (withRefusals (port w) r))
   put-refusals g = let q = p .port-good in put-port (record { phase = q .phase; text = q .text; drawing = q .drawing; flow = q .flow; refusals = g })
 
-  pub put-phase : {f : Phase} {a : List ℕ} → PhaseGood f a (w .store) → Parts n m (withPort w (withPhase (port w) f a))
+  pub put-phase : {f : Phase} {a : List ℕ} → PhaseGood (edition w) f a (w .store) → Parts n m (withPort w (withPhase (port w) f a))
   put-phase g = let q = p .port-good in put-port (record { phase = g; text = q .text; drawing = q .drawing; flow = q .flow; refusals = q .refusals })
 
-  pub put-bars : {l : List BarSlot} → BarsGood n l → Parts n m (withPanel w (withBars (panel w) l))
+  pub put-bars : {l : List BarSlot} → BarsGood (height w) l → Parts n m (withPanel w (withBars (panel w) l))
   put-bars g = let q = p .panel-good in put-panel (record { bars = g; strips = q .strips; serial = q .serial; contrast = q .contrast; minutes = q .minutes })
 
-  pub put-strips : {l : List Strip} → StripsGood n l → Parts n m (withPanel w (withStrips (panel w) l))
+  pub put-strips : {l : List Strip} → StripsGood (height w) l → Parts n m (withPanel w (withStrips (panel w) l))
   put-strips g = let q = p .panel-good in put-panel (record { bars = q .bars; strips = g; serial = q .serial; contrast = q .contrast; minutes = q .minutes })
 
   -- the store, with the phase as it stands for the new one
-  pub put-store : {s : List ℕ} → StoreGood m s → PhaseGood (port w .line .phase) (port w .line .args) s → Parts n m (withStore w s)
+  pub put-store : {s : List ℕ} → StoreGood m s → PhaseGood (edition w) (port w .line .phase) (port w .line .args) s → Parts n m (withStore w s)
   put-store g f =
       let q = p .port-good in
       record {
@@ -222,11 +233,11 @@ module _ {n m : ℕ} {w : World} (p : Parts n m w) where
         panel-good = p .panel-good;
         store = g;
         framebuffer = p .framebuffer;
-        height = p .height;
+        config = p .config;
       }
 
   -- both at once
-  pub put-both : {f : Phase} {a s : List ℕ} → StoreGood m s → PhaseGood f a s → Parts n m (withPort (withStore w s) (withPhase (port w) f a))
+  pub put-both : {f : Phase} {a s : List ℕ} → StoreGood m s → PhaseGood (edition w) f a s → Parts n m (withPort (withStore w s) (withPhase (port w) f a))
   put-both g f =
       let q = p .port-good in
       record {
@@ -234,16 +245,16 @@ module _ {n m : ℕ} {w : World} (p : Parts n m w) where
         panel-good = p .panel-good;
         store = g;
         framebuffer = p .framebuffer;
-        height = p .height;
+        config = p .config;
       }
 
 -- ---- outcomes
 
 -- what is done leaves a good world, and a refusal's number is one that is given
-abbrev pub Leaves : ℕ → ℕ → Outcome → Type 0
+abbrev pub Leaves : Config → ℕ → Outcome → Type 0
 Leaves n m (done v r) = Parts n m v
 Leaves n m (refused k r) = Given k
 
 -- a reason to refuse stands before
-pub passes : (n m : ℕ) (bad : Bool) (k : ℕ) (o : Outcome) → Given k → (bad ≡ false → Leaves n m o) → Leaves n m (refuseIf bad k o)
+pub passes : (n : Config) (m : ℕ) (bad : Bool) (k : ℕ) (o : Outcome) → Given k → (bad ≡ false → Leaves n m o) → Leaves n m (refuseIf bad k o)
 passes n m bad k o h f = by-test (Leaves n m) bad (refused k []) o (λ _. h) f

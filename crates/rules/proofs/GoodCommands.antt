@@ -25,7 +25,9 @@ use Rattle.state.specs.Soundness.{soundBar, soundStrip, soundCorners, soundSetU
 use Rattle.state.specs.Canonical.{canonicalBar, canonicalStrip, canonicalSerial}
 use Rattle.state.specs.Fits.{BarFits}
 use Rattle.state.proofs.Every.{every-at}
+use Rattle.state.specs.declared.Config.{Config}
 use Rattle.rules.specs.World.{World, height, panel}
+use Rattle.rules.specs.Numbers.{tooHigh}
 use Rattle.rules.specs.Drawing.{ordered, clear, setColour, drawPixel, drawLine, drawFrame, fillRectangle}
 use Rattle.rules.specs.Bars.{inBounds, apart, setUpBar, writeBar, setUpStrip, shiftStrip}
 use Rattle.rules.specs.Pictures.{bitmapIn, bitmapAt, showBitmap}
@@ -44,8 +46,8 @@ record Inside (h x1 y1 x2 y2 : ℕ) : Type 0 where
   x2-fits : x2 < 256
   y2-fits : y2 < 256
 
-inside : {n m : ℕ} {w : World} → Parts n m w → (x1 y1 x2 y2 : ℕ) → not (inBounds w x1 y1 x2 y2) ≡ false → not (apart x1 y1 x2 y2) ≡ false
-    → Inside n x1 y1 x2 y2
+inside : {n : Config} {m : ℕ} {w : World} → Parts n m w → (x1 y1 x2 y2 : ℕ) → not (inBounds w x1 y1 x2 y2) ≡ false → not (apart x1 y1 x2 y2) ≡ false
+    → Inside (height w) x1 y1 x2 y2
 inside {n} {m} {w} p x1 y1 x2 y2 h k =
     let a = and-both _ _ (not-false (inBounds w x1 y1 x2 y2) h) in
     let b = and-both _ _ (a .0) in
@@ -54,10 +56,9 @@ inside {n} {m} {w} p x1 y1 x2 y2 h k =
     let y = ltb-true y1 y2 (e .1) in
     let hx = ltb-true x2 width (and-both (ltb x1 width) (ltb x2 width) (b .0) .1) in
     let hy = ltb-true y2 (height w) (a .1) in
-    let r = p .height .same in
-    let l = p .height .fits in
+    let l = p .config .fits .height in
     record {
-      framebuffer = rw (e .0, e .1, lt-ltb x2 width hx, lt-ltb y2 n (omega arith));
+      framebuffer = rw (e .0, e .1, lt-ltb x2 width hx, lt-ltb y2 (height w) hy);
       low = l;
       x1-fits = omega arith;
       y1-fits = omega arith;
@@ -103,7 +104,7 @@ written-framebuffer g b v =
 
 -- ---- each command
 
-module _ {n m : ℕ} {w : World} (p : Parts n m w) where
+module _ {n : Config} {m : ℕ} {w : World} (p : Parts n m w) where
   -- ---- drawing
 
   pub clear-good : Leaves n m (clear w)
@@ -139,7 +140,7 @@ module _ {n m : ℕ} {w : World} (p : Parts n m w) where
       passes n m (not (inBounds w x1 y1 x2 y2)) 17 _ (omega arith) (λ ho. passes n m (not (apart x1 y1 x2 y2)) 18 _ (omega arith) (λ ha.
       let q = inside p x1 y1 x2 y2 ho ha in
       let l = leb-false 4 k hk in
-      put-bars p (bars-good (p .panel-good .bars) i (barSlot true (barOf k x1 y1 x2 y2 0)) (set-up-sound n k x1 y1 x2 y2 (q .framebuffer) l) (set-up-canonical _) (omega (arith, q)))))))
+      put-bars p (bars-good (p .panel-good .bars) i (barSlot true (barOf k x1 y1 x2 y2 0)) (set-up-sound (height w) k x1 y1 x2 y2 (q .framebuffer) l) (set-up-canonical _) (omega (arith, q)))))))
 
   pub write-good : (i v : ℕ) → v < 256 → Leaves n m (writeBar w i v)
   unfolding writeBar
@@ -148,7 +149,7 @@ module _ {n m : ℕ} {w : World} (p : Parts n m w) where
       let b = p .panel-good .bars in
       let s = barAt (panel w) i in
       put-bars (put-framebuffer p (written-framebuffer (w .framebuffer) (s .bar) v)) (bars-good b i (barSlot true (writtenBar (s .bar) v))
-      (written-sound n s v (not-false (s .on) ho) (every-at (soundBar n) (panel w .bars) i noBar (none-sound n) (b .sound)))
+      (written-sound (height w) s v (not-false (s .on) ho) (every-at (soundBar (height w)) (panel w .bars) i noBar (none-sound (height w)) (b .sound)))
       (set-up-canonical _) (written-fits s v h (b .fits i)))))
 
   pub strip-good : (i x1 y1 x2 y2 : ℕ) → Leaves n m (setUpStrip w i x1 y1 x2 y2)
@@ -171,7 +172,7 @@ module _ {n m : ℕ} {w : World} (p : Parts n m w) where
 
   pub bitmap-good : (i x y : ℕ) → Leaves n m (showBitmap w i x y)
   unfolding showBitmap
-  bitmap-good i x y = bitmap-at (findOf (w .store) 2 i) x y
+  bitmap-good i x y = passes n m (tooHigh i) 19 _ (omega arith) (λ _. bitmap-at (findOf (w .store) 2 i) x y)
 
   -- ---- settings
 

@@ -19,7 +19,9 @@ use Rattle.opened_font.specs.Glyphs.{glyphOf}
 use Rattle.file_laws.proofs.Written.{and-both}
 use Rattle.queue.specs.Record.{Bytes}
 use Rattle.state.specs.declared.Text.{Text}
+use Rattle.state.specs.declared.Config.{Config}
 use Rattle.rules.specs.World.{World, height, port}
+use Rattle.rules.specs.Numbers.{tooHigh}
 use Rattle.rules.specs.Fonts.{Opened, opened, shut, openedAt, openFont}
 use Rattle.rules.specs.Text.{atPoint, home, withFont, withWrap, withScroll, withMetrics, placeX, placeY, Place, place, nowhere, wrapped, fitted, Ink, Drawn, drawn, ignored, drawnBy, drawnAt, drawnOn, characterIn, character, fontChosen, chooseFont, placeIn, setPlace}
 use Rattle.rules.proofs.Good.{TextGood, Parts, put-framebuffer, put-text, Leaves, passes}
@@ -32,7 +34,7 @@ at-point g x y h k = omega arith
 pub home-good : {t : Text} → TextGood t → TextGood (home t)
 home-good g = omega arith
 
-pub font-good : {t : Text} → TextGood t → (i : ℕ) → i < 256 → TextGood (withFont t i)
+pub font-good : {t : Text} → TextGood t → (i : ℕ) → i < 65536 → TextGood (withFont t i)
 font-good g i h = omega arith
 
 pub wrap-good : {t : Text} → TextGood t → (b : Bool) → TextGood (withWrap t b)
@@ -75,15 +77,15 @@ room-placed h v f (place x y up) =
     let c = leb-true (y + f) h (a .1) in omega arith)
     (λ _. tt)
 
-module _ {n m : ℕ} {w : World} (p : Parts n m w) where
-  choice : (i : ℕ) (o : Opened) → i < 256 → Numbered o → Leaves n m (fontChosen w i o)
+module _ {n : Config} {m : ℕ} {w : World} (p : Parts n m w) where
+  choice : (i : ℕ) (o : Opened) → i < 65536 → Numbered o → Leaves n m (fontChosen w i o)
   unfolding fontChosen
   choice i (opened f) h k = put-text p (font-good (p .port-good .text) i h)
   choice i (shut r) h k = k
 
-  pub choose-good : (i : ℕ) → i < 256 → Leaves n m (chooseFont w i)
+  pub choose-good : (i : ℕ) → i < 65536 → Leaves n m (chooseFont w i)
   unfolding chooseFont
-  choose-good i h = choice i (openFont (height w) (w .store) i) h (font-numbered (height w) (w .store) i)
+  choose-good i h = passes n m (tooHigh i) 19 _ (omega arith) (λ _. choice i (openFont (height w) (w .store) i) h (font-numbered (height w) (w .store) i))
 
   placing : (c r : ℕ) (o : Opened) → Numbered o → Leaves n m (placeIn w c r o)
   unfolding placeIn
@@ -94,7 +96,7 @@ module _ {n m : ℕ} {w : World} (p : Parts n m w) where
       passes n m (eqb c 0 || eqb r 0 || leb width x || leb (height w) y) 17 _ (omega arith)
       (λ h. let hx = leb-false width x (or-two (eqb c 0 || eqb r 0) (leb width x) (or-one (eqb c 0 || eqb r 0 || leb width x) (leb (height w) y) h)) in
       let hy = leb-false (height w) y (or-two (eqb c 0 || eqb r 0 || leb width x) (leb (height w) y) h) in
-      put-text p (at-point (p .port-good .text) x y (omega (arith, hx)) (omega (arith, hy, p .height))))
+      put-text p (at-point (p .port-good .text) x y (omega (arith, hx)) (omega (arith, hy, p .config .fits))))
 
   pub place-good : (c r : ℕ) → Leaves n m (setPlace w c r)
   unfolding setPlace
@@ -105,7 +107,7 @@ module _ {n m : ℕ} {w : World} (p : Parts n m w) where
   drawn-at i v t nowhere h = omega arith
   drawn-at i v t (place x y up) h =
       put-text (put-framebuffer p (bytes-repaint _ _))
-      (at-point (p .port-good .text) (x + v + port w .text .«char_space») y (omega (arith, h .0, p .port-good .text .fits .char-space)) (omega (arith, h .1, p .height)))
+      (at-point (p .port-good .text) (x + v + port w .text .«char_space») y (omega (arith, h .0, p .port-good .text .fits .char-space)) (omega (arith, h .1, p .config .fits)))
 
   drawn-on : (d : Drawn) → Leaves n m (drawnOn w d)
   unfolding drawnOn

@@ -16,7 +16,7 @@ use Rattle.fonts.specs.Fonts.{offsetAt, widthAt, isEntry, areEntries, isFont}
 use Rattle.opened_font.specs.Glyphs.{glyphIn, glyphOf}
 use Rattle.builtin_font.specs.Table.{table}
 use Rattle.state.specs.declared.Text.{Text}
-use Rattle.state.specs.State.{startState, barAt, stripAt}
+use Rattle.state.specs.State.{config, startState, barAt, stripAt}
 use Rattle.rules.specs.World.{World, world, port, panel, putText, Outcome, refused}
 use Rattle.rules.specs.Text.{withMetrics, withFont, atPoint, wrapped, fitted, drawnBy, drawnAt, drawnOn, characterIn, character, fontChosen, chooseFont, placeIn, setPlace}
 use Rattle.rules.specs.Fonts.{openFont, openedAt}
@@ -27,7 +27,7 @@ use Rattle.rules.specs.Step.{after}
 
 -- h rows, just started
 abbrev fresh : ℕ → World
-fresh h = world (replicate (lengthFor h) 0) (replicate 1024 0) (startState h)
+fresh h = world (replicate (lengthFor h) 0) (replicate 1024 0) (startState (config h 1))
 
 -- what an outcome leaves of it
 abbrev then : ℕ → (World → Outcome) → World
@@ -94,14 +94,14 @@ lines = (refl, refl, refl, refl)
 -- font 2, h rows high: character 65 alone, one column wide
 abbrev holding : ℕ → ℕ → ℕ → World
 holding rows h size =
-    world (replicate (lengthFor rows) 0) (1 ∷ 2 ∷ size ∷ 0 ∷ replicate 252 0 ++ (1 ∷ h ∷ 65 ∷ 65 ∷ 0 ∷ 7 ∷ 1 ∷ replicate 761 255)) (startState rows)
+    world (replicate (lengthFor rows) 0) (1 ∷ 2 ∷ size ∷ 0 ∷ replicate 252 0 ++ (1 ∷ h ∷ 65 ∷ 65 ∷ 0 ∷ 7 ∷ 1 ∷ replicate 761 255)) (startState (config rows 1))
 
 abbrev chosen : ℕ → ℕ → ℕ → ℕ
 chosen rows h size = textOf (after (holding rows h size) (chooseFont (holding rows h size) 2)) .font
 
 pub font-heights : (chosen 64 64 15 ≡ 2) × (chooseFont (holding 64 65 16) 2 ≡ refused 23 []) × (chosen 128 65 16 ≡ 2) × (chosen 128 128 23 ≡ 2)
     × (chooseFont (holding 128 129 24) 2 ≡ refused 23 [])
-unfolding chooseFont fontChosen openFont openedAt isFont areEntries isEntry offsetAt widthAt between packedBytes after readFrom entriesFrom entryAt stepAt directory.lengthOf sizesIn findIn
+unfolding chooseFont fontChosen openFont openedAt isFont areEntries isEntry offsetAt widthAt between packedBytes after readFrom entriesFrom entryAt stepAt directory.lengthOf directory.sortOf sizesIn findIn
 font-heights = (refl, refl, refl, refl, refl)
 
 -- the current font is checked where it is used, too
@@ -110,5 +110,5 @@ current rows = putText (holding rows 65 16) (withFont (textOf (holding rows 65 1
 
 pub font-used : (character (current 64) 65 ≡ refused 23 []) × (setPlace (current 64) 1 1 ≡ refused 23 []) × (textOf (after (current 128) (character (current 128) 65)) .x ≡ 1)
     × (textOf (after (current 128) (setPlace (current 128) 1 1)) .y ≡ 0)
-unfolding character characterIn drawnBy drawnOn drawnAt glyphOf glyphIn wrapped fitted setPlace placeIn openFont openedAt isFont areEntries isEntry offsetAt widthAt between packedBytes after readFrom entriesFrom entryAt stepAt directory.lengthOf sizesIn findIn
+unfolding character characterIn drawnBy drawnOn drawnAt glyphOf glyphIn wrapped fitted setPlace placeIn openFont openedAt isFont areEntries isEntry offsetAt widthAt between packedBytes after readFrom entriesFrom entryAt stepAt directory.lengthOf directory.sortOf sizesIn findIn
 font-used = (refl, refl, refl, refl)

@@ -3,7 +3,7 @@
 use mathlib.Core.Path.{_≡_, _∙_, refl, ap, subst}
 use mathlib.Core.Bool.{true, false, cond, _&&_}
 use mathlib.Core.List.{List, []}
-use Prim.Native.Nat.{ℕ, _+_, _<_}
+use Prim.Native.Nat.{ℕ, _+_}
 use lib.Dec.{eqb, leb}
 use lib.ListN.{length}
 use Rattle.pixels.specs.Framebuffer.{Region, On, pixel, put, plain}
@@ -18,17 +18,18 @@ use Rattle.opened_font.specs.declared.Glyph.the-variants.{Missing}
 use Rattle.opened_font.specs.Glyphs.{glyphOf}
 use Rattle.opened_font.proofs.Laws.{glyph-missing}
 use Rattle.bar_ledger.specs.Ledger.{quiet, painted}
+use Rattle.state.specs.declared.Config.{Config}
 use Rattle.state.specs.declared.Phase.{Phase}
 use Rattle.state.specs.declared.Phase.the-variants.{Idle}
 use Rattle.rules.specs.World.{World, height, port, withFramebuffer, putText, Outcome, done, refused, quietly}
 use Rattle.rules.specs.Fonts.{opened, openFont}
 use Rattle.rules.specs.Text.{atPoint, Place, place, nowhere, wrapped, fitted, movedUp, isIgnored, solid, missing, drawnBy, drawnAt, drawnOn, characterIn, character}
-use Rattle.rules.specs.Step.{alone, byPhase, outcome, after, step, replies}
-use Rattle.rules.specs.Sound.{Good}
+use Rattle.rules.specs.Step.{alone, byPhase, Input, byte, outcome, after, step, replies}
+use Rattle.rules.specs.Sound.{Comes, Good}
 use Rattle.rules.specs.History.{lastIn}
 use Rattle.rules.specs.Events.{event, meant, characterEvent}
 use Rattle.rules.proofs.Good.{Leaves, parts}
-use Rattle.rules.proofs.GoodByte.{byte-leaves}
+use Rattle.rules.proofs.GoodByte.{input-leaves}
 
 -- outside a command, a byte that is a character below the first or above the last of the current font
 pub record Lacking (w : World) (c : ℕ) (f : List ℕ) : Type 0 where
@@ -54,11 +55,11 @@ moved-long n g = by-test (λ (h : List ℕ). length h ≡ length g) (eqb n 0) g 
 -- THE BOX: each of its pixels is black, the text point moves by the nominal width, nothing is counted or sent, and what is touched is the box, or
 -- everything if it scrolls
 pub record Boxed (w : World) (c : ℕ) (f : List ℕ) (x y up : ℕ) : Type 0 where
-  pub black : (u v : ℕ) → On (length (w .framebuffer)) u v → nominalBox f x y u v ≡ true → pixel (step w c .framebuffer) u v ≡ true
-  pub moves : port (step w c) .text ≡ atPoint (port w .text) (x + nominalWidth f + port w .text .«char_space») y
-  pub uncounted : port (step w c) .refusals ≡ port w .refusals
-  pub silent : replies w c ≡ []
-  pub touches : event w c ≡ painted (cond (eqb up 0) (nominalBox f x y) everywhere)
+  pub black : (u v : ℕ) → On (length (w .framebuffer)) u v → nominalBox f x y u v ≡ true → pixel (step w (byte c) .framebuffer) u v ≡ true
+  pub moves : port (step w (byte c)) .text ≡ atPoint (port w .text) (x + nominalWidth f + port w .text .«char_space») y
+  pub uncounted : port (step w (byte c)) .refusals ≡ port w .refusals
+  pub silent : replies w (byte c) ≡ []
+  pub touches : event w (byte c) ≡ painted (cond (eqb up 0) (nominalBox f x y) everywhere)
 
 module _ (w : World) (c : ℕ) (f : List ℕ) (l : Lacking w c f) where
   no-glyph : glyphOf f c ≡ Missing
@@ -68,7 +69,7 @@ module _ (w : World) (c : ℕ) (f : List ℕ) (l : Lacking w c f) where
   unfolding alone character characterIn
   alone-is = rw (l .no-prefix, l .font, no-glyph)
 
-  comes-to : outcome w c ≡ drawnOn w (drawnBy f c Missing)
+  comes-to : outcome w (byte c) ≡ drawnOn w (drawnBy f c Missing)
   unfolding byPhase
   comes-to = ap (λ (p : Phase). byPhase p w c) (l .idle) ∙ alone-is
 
@@ -77,7 +78,7 @@ module _ (w : World) (c : ℕ) (f : List ℕ) (l : Lacking w c f) where
   meant-is = ap (λ (p : Phase). meant p w c) (l .idle) ∙ rw (l .no-prefix)
 
   module _ (i : isIgnored c ≡ true) where
-    ignores : outcome w c ≡ quietly w
+    ignores : outcome w (byte c) ≡ quietly w
     unfolding missing drawnBy drawnOn
     ignores = comes-to ∙ rw i
 
@@ -86,23 +87,23 @@ module _ (w : World) (c : ℕ) (f : List ℕ) (l : Lacking w c f) where
     touches-nothing = rw (l .font, no-glyph, i)
 
     -- A BYTE THAT IS IGNORED changes nothing, sends nothing and touches no pixel
-    pub ignored-byte : (step w c ≡ w) × (replies w c ≡ []) × (event w c ≡ quiet)
+    pub ignored-byte : (step w (byte c) ≡ w) × (replies w (byte c) ≡ []) × (event w (byte c) ≡ quiet)
     unfolding step after replies event
     ignored-byte = (rw ignores, rw ignores, rw ignores (meant-is ∙ touches-nothing))
 
   module _ (i : isIgnored c ≡ false) where
-    as-box : outcome w c ≡ drawnAt w solid (nominalWidth f) (heightOf f) (boxPlace w f)
+    as-box : outcome w (byte c) ≡ drawnAt w solid (nominalWidth f) (heightOf f) (boxPlace w f)
     unfolding missing drawnBy drawnOn
     as-box = comes-to ∙ rw i
 
     -- A BOX WITHOUT ROOM is refused
-    pub box-refused : boxPlace w f ≡ nowhere → outcome w c ≡ refused glyphDoesNotFit []
+    pub box-refused : boxPlace w f ≡ nowhere → outcome w (byte c) ≡ refused glyphDoesNotFit []
     unfolding drawnAt
     box-refused e = as-box ∙ rw e
 
     -- and any other is painted
     module _ (x y up : ℕ) (there : boxPlace w f ≡ place x y up) where
-      paints : outcome w c ≡ quietly (boxedWorld w f x y up)
+      paints : outcome w (byte c) ≡ quietly (boxedWorld w f x y up)
       unfolding drawnAt
       paints = as-box ∙ rw there
 
@@ -110,7 +111,7 @@ module _ (w : World) (c : ℕ) (f : List ℕ) (l : Lacking w c f) where
       unfolding characterEvent missing drawnBy
       touches = rw (l .font, no-glyph, i, there)
 
-      stepped : step w c ≡ boxedWorld w f x y up
+      stepped : step w (byte c) ≡ boxedWorld w f x y up
       unfolding step after
       stepped = rw paints
 
@@ -130,13 +131,13 @@ module _ (w : World) (c : ℕ) (f : List ℕ) (l : Lacking w c f) where
 -- ---- the numbers of refusals
 
 -- EVERY REFUSAL'S NUMBER is one that is given
-pub given : (w : World) (b : ℕ) → Good w → b < 256 → (n : ℕ) (r : List ℕ) → outcome w b ≡ refused n r → Given n
-given w b g h n r e = subst (Leaves (height w) (length (w .store))) e (byte-leaves (parts g) b h)
+pub given : (w : World) (i : Input) → Good w → Comes i → (n : ℕ) (r : List ℕ) → outcome w i ≡ refused n r → Given n
+given w i g h n r e = subst (Leaves (w .state .config) (length (w .store))) e (input-leaves (parts g) i h)
 
-last-by : (n m : ℕ) (o : Outcome) (k : ℕ) → Leaves n m o → (k ≡ noGlyph → ⊥) → lastIn o k ≡ noGlyph → ⊥
-last-by n m (done v r) k h f = f
-last-by n m (refused j r) k h f = h .2
+last-by : (c : Config) (m : ℕ) (o : Outcome) (k : ℕ) → Leaves c m o → (k ≡ noGlyph → ⊥) → lastIn o k ≡ noGlyph → ⊥
+last-by c m (done v r) k h f = f
+last-by c m (refused j r) k h f = h .2
 
 -- so that 28 is the last one only where it was before
-pub never-28 : (w : World) (b k : ℕ) → Good w → b < 256 → (k ≡ noGlyph → ⊥) → lastIn (outcome w b) k ≡ noGlyph → ⊥
-never-28 w b k g h f = last-by (height w) (length (w .store)) (outcome w b) k (byte-leaves (parts g) b h) f
+pub never-28 : (w : World) (i : Input) (k : ℕ) → Good w → Comes i → (k ≡ noGlyph → ⊥) → lastIn (outcome w i) k ≡ noGlyph → ⊥
+never-28 w i k g h f = last-by (w .state .config) (length (w .store)) (outcome w i) k (input-leaves (parts g) i h) f

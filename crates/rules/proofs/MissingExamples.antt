@@ -16,7 +16,7 @@ use Rattle.fonts.specs.Fonts.{offsetAt, widthAt, isEntry, areEntries, isFont}
 use Rattle.fonts.proofs.Examples.{small}
 use Rattle.opened_font.specs.Glyphs.{glyphOf, glyphIn}
 use Rattle.builtin_font.specs.Table.{table}
-use Rattle.state.specs.State.{startState}
+use Rattle.state.specs.State.{config, startState}
 use Rattle.rules.specs.World.{World, world, port, withFramebuffer, putText, refused}
 use Rattle.rules.specs.Fonts.{opened, openFont, openedAt}
 use Rattle.rules.specs.Text.{atPoint, withFont, withWrap, withScroll, wrapped, fitted, missing, drawnBy, drawnAt, drawnOn, characterIn, character}
@@ -25,7 +25,7 @@ use Rattle.rules.specs.Step.{after}
 abbrev held : World
 held =
     world (replicate 240 0)
-    (1 ∷ 2 ∷ 3 ∷ 0 ∷ (replicate 252 0 ++ (1 ∷ 1 ∷ 65 ∷ replicate 765 0))) (startState 8)
+    (1 ∷ 2 ∷ 3 ∷ 0 ∷ (replicate 252 0 ++ (1 ∷ 1 ∷ 65 ∷ replicate 765 0))) (startState (config 8 1))
 
 -- with font n at (x, y)
 abbrev at : ℕ → ℕ → ℕ → World
@@ -80,7 +80,7 @@ fonts = (refl, refl, refl, refl, refl, refl, refl, refl)
 
 -- no font, or none that is well formed, lacks anything
 pub font-first : (character (at 2 0 0) 13 ≡ refused 23 []) × (character (at 2 0 0) 200 ≡ refused 23 []) × (character (at 3 0 0) 10 ≡ refused 22 []) × (character (at 3 0 0) 8 ≡ refused 22 [])
-unfolding character characterIn openFont openedAt isFont areEntries isEntry offsetAt widthAt between packedBytes readFrom entriesFrom entryAt stepAt directory.lengthOf sizesIn findIn
+unfolding character characterIn openFont openedAt isFont areEntries isEntry offsetAt widthAt between packedBytes readFrom entriesFrom entryAt stepAt directory.lengthOf directory.sortOf sizesIn findIn
 font-first = (refl, refl, refl, refl)
 
 -- the line's end: to its last column; without wrap no room; moved up, all that was black gone; at the top margin; and below, no room

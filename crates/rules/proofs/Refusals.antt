@@ -5,7 +5,7 @@ use mathlib.Core.Path.{_≡_, refl}
 use mathlib.Core.List.{List}
 use Prim.Native.Nat.{ℕ}
 use Rattle.rules.specs.World.{World, refused}
-use Rattle.rules.specs.Step.{outcome, refuse, after, step, replies}
+use Rattle.rules.specs.Step.{Input, outcome, refuse, after, step, replies}
 use Rattle.rules.specs.Refused.{Unaltered}
 
 pub refuse-alters : (w : World) (n : ℕ) → Unaltered w (refuse w n) n
@@ -14,7 +14,7 @@ refuse-alters w n =
     record {
       framebuffer = refl;
       store = refl;
-      height = refl;
+      config = refl;
       panel-same = refl;
       text = refl;
       drawing = refl;
@@ -25,13 +25,13 @@ refuse-alters w n =
       last = refl;
     }
 
-pub refused-step : (w : World) (b n : ℕ) (r : List ℕ) → outcome w b ≡ refused n r → step w b ≡ refuse w n
+pub refused-step : (w : World) (i : Input) (n : ℕ) (r : List ℕ) → outcome w i ≡ refused n r → step w i ≡ refuse w n
 unfolding step after
-refused-step w b n r e = rw e
+refused-step w i n r e = rw e
 
-pub demand-1 : (w : World) (b n : ℕ) (r : List ℕ) → outcome w b ≡ refused n r → Unaltered w (step w b) n
-demand-1 w b n r e = rw (refused-step w b n r e) (refuse-alters w n)
+pub demand-1 : (w : World) (i : Input) (n : ℕ) (r : List ℕ) → outcome w i ≡ refused n r → Unaltered w (step w i) n
+demand-1 w i n r e = rw (refused-step w i n r e) (refuse-alters w n)
 
-pub refused-replies : (w : World) (b n : ℕ) (r : List ℕ) → outcome w b ≡ refused n r → replies w b ≡ r
+pub refused-replies : (w : World) (i : Input) (n : ℕ) (r : List ℕ) → outcome w i ≡ refused n r → replies w i ≡ r
 unfolding replies
-refused-replies w b n r e = rw e
+refused-replies w i n r e = rw e

@@ -1,13 +1,13 @@
--- NO BYTE SENDS MORE THAN TWO REPLY BYTES, and so no piece more than its room.
+-- NO INPUT SENDS MORE THAN TWO REPLY BYTES, and so no piece more than its room.
 -- Assumes nothing.
 use Rattle.pixels.specs.Framebuffer.{width}
 use mathlib.Core.Path.{_≡_, subst}
 use mathlib.Core.Bool.{Bool, true, false, not, _&&_, _||_}
 use mathlib.Core.List.{List, [], _∷_}
-use Prim.Native.Nat.{ℕ, suc, _+_, _-_, _*_, _%_, _≤_}
+use Prim.Native.Nat.{ℕ, suc, _+_, _-_, _%_, _≤_}
 use native.Mathlib.Omega.{arith}
 use lib.Dec.{eqb, leb, ltb}
-use lib.ListN.{length, take, drop, set, length-append}
+use lib.ListN.{length, take, drop, length-append}
 use borrow.Author.Tests.{ltb-false}
 use Rattle.pixels.proofs.Tests.{by-test}
 use Rattle.directory.specs.declared.Found.{Found}
@@ -20,17 +20,19 @@ use Rattle.state.specs.declared.Command.{Command}
 use Rattle.state.specs.declared.Command.the-variants.{Unknown, Clear, Home, SetPoint, SetPlace, WrapOn, WrapOff, ScrollOn, ScrollOff, ChooseFont, SetMetrics, SetColour, DrawPixel, DrawLine, ContinueLine, DrawFrame, FillRectangle, SetUpBar, WriteBar, SetUpStrip, ShiftStrip, ShowBitmap, DrawInline, UploadFont, UploadBitmap, DeleteFile, Purge, FlowOn, FlowOff, SetContrast, BacklightOn, BacklightOff, SetSerial}
 use Rattle.state.specs.declared.Phase.{Phase}
 use Rattle.state.specs.declared.Phase.the-variants.{Idle, Prefix, Gathering, Inline, Upload}
+use Rattle.state.specs.Editions.{patience}
 use Rattle.state.specs.State.{barAt, stripAt}
 use Rattle.state.specs.Commands.{commandOf, argumentsOf}
-use Rattle.rules.specs.World.{World, height, port, panel, withFramebuffer, putText, Outcome, done, refused, quietly, refuseIf, arg}
+use Rattle.rules.specs.World.{World, height, edition, port, panel, withFramebuffer, putText, Outcome, done, refused, quietly, refuseIf, arg}
+use Rattle.rules.specs.Numbers.{tooHigh, numberBytes, numberAt, sizeIn}
 use Rattle.rules.specs.Fonts.{Opened, opened, shut, openFont}
 use Rattle.rules.specs.Text.{Place, place, nowhere, atPoint, placeX, placeY, wrapped, fitted, fontChosen, chooseFont, placeIn, setPlace, Ink, Drawn, drawn, ignored, drawnBy, drawnAt, drawnOn, characterIn, character}
 use Rattle.rules.specs.Drawing.{ordered, clear, setColour, drawPixel, drawLine, drawFrame, fillRectangle}
 use Rattle.rules.specs.Bars.{inBounds, apart, setUpBar, writeBar, setUpStrip, shiftStrip}
 use Rattle.rules.specs.Pictures.{inPhase, bitmapIn, bitmapAt, showBitmap, beginInline, inlineData}
-use Rattle.rules.specs.Files.{inUse, lacksSpace, confirmed, tellIf, beginUpload, uploadData, deleteFile, purge}
+use Rattle.rules.specs.Files.{inUse, kindOf, lacksSpace, confirmed, tellIf, beginUpload, uploadData, uploadWaits, deleteFile, purge}
 use Rattle.rules.specs.Settings.{flowOn, flowOff, setContrast, backlightOn, backlightOff, setSerial}
-use Rattle.rules.specs.Step.{obey, outside, code, noBitmap, argument, alone, byPhase, sent, step, replies}
+use Rattle.rules.specs.Step.{obey, outside, code, gathered, highBitmap, noBitmap, argument, alone, byPhase, waits, Input, byte, time, sent, step, replies}
 use Rattle.rules.specs.Calls.{said, taken}
 
 pub record Brief (o : Outcome) : Type 0 where
@@ -103,7 +105,8 @@ bitmap-brief w (At p a z) x y =
 
 upload-brief : (w : World) (k n z : ℕ) → Brief (beginUpload w k n z)
 unfolding beginUpload
-upload-brief w k n z = brief-tell (inUse (w .store) k n) 25 _ (brief-tell (lacksSpace (w .store) z) 24 _ (one (inPhase w (Upload k n z 0 false 0)) 1))
+upload-brief w k n z =
+    brief-tell (tooHigh n) 19 _ (brief-tell (inUse (w .store) k n) 25 _ (brief-tell (lacksSpace (w .store) (kindOf (edition w) k) z) 24 _ (one (inPhase w (Upload k n z 0 false 0 0)) 1)))
 
 serial-brief : (w : World) (a b : ℕ) → Brief (setSerial w a b)
 unfolding setSerial
@@ -125,7 +128,7 @@ obey-brief WrapOn a w = silent _
 obey-brief WrapOff a w = silent _
 obey-brief ScrollOn a w = silent _
 obey-brief ScrollOff a w = silent _
-obey-brief ChooseFont a w = chosen-brief w (arg a 0) (openFont (height w) (w .store) (arg a 0))
+obey-brief ChooseFont a w = let n = numberAt (edition w) a 0 in brief-if (tooHigh n) 19 _ (chosen-brief w n (openFont (height w) (w .store) n))
 obey-brief SetMetrics a w = silent _
 obey-brief SetColour a w = silent _
 obey-brief DrawPixel a w = silent _
@@ -139,11 +142,15 @@ obey-brief WriteBar a w = brief-if (leb 16 (arg a 0)) 19 _ (brief-if (not (barAt
 obey-brief SetUpStrip a w =
     brief-if (leb 8 (arg a 0)) 19 _ (brief-if (not (inBounds w (arg a 1) (arg a 2) (arg a 3) (arg a 4))) 17 _ (brief-if (not (apart (arg a 1) (arg a 2) (arg a 3) (arg a 4))) 18 _ (silent _)))
 obey-brief ShiftStrip a w = brief-if (leb 8 (arg a 0 % 128)) 19 _ (brief-if (not (stripAt (panel w) (arg a 0 % 128) .on)) 21 _ (silent _))
-obey-brief ShowBitmap a w = bitmap-brief w (findOf (w .store) 2 (arg a 0)) (arg a 1) (arg a 2)
+obey-brief ShowBitmap a w =
+    let n = numberAt (edition w) a 0 in
+    brief-if (tooHigh n) 19 _ (bitmap-brief w (findOf (w .store) 2 n) (arg a (numberBytes (edition w))) (arg a (numberBytes (edition w) + 1)))
 obey-brief DrawInline a w = brief-if (not (ordered (arg a 0) (arg a 1) (arg a 2) (arg a 3))) 18 _ (silent _)
-obey-brief UploadFont a w = upload-brief w 1 (arg a 0) (arg a 1 + 256 * arg a 2)
-obey-brief UploadBitmap a w = upload-brief w 2 (arg a 0) (arg a 1 + 256 * arg a 2)
-obey-brief DeleteFile a w = brief-if (leb 2 (arg a 0)) 20 _ (brief-if (not (hasFile (entries (w .store)) (arg a 0 + 1) (arg a 1))) 22 _ (silent _))
+obey-brief UploadFont a w = upload-brief w 1 (numberAt (edition w) a 0) (sizeIn (edition w) a)
+obey-brief UploadBitmap a w = upload-brief w 2 (numberAt (edition w) a 0) (sizeIn (edition w) a)
+obey-brief DeleteFile a w =
+    let n = numberAt (edition w) a 1 in
+    brief-if (leb 2 (arg a 0)) 20 _ (brief-if (tooHigh n) 19 _ (brief-if (not (hasFile (entries (w .store)) (arg a 0 + 1) n)) 22 _ (silent _)))
 obey-brief Purge a w = brief-if (not (eqb (arg a 0) 89 && eqb (arg a 1) 33)) 20 _ (silent _)
 obey-brief FlowOn a w = brief-if (leb 80 (arg a 0 + arg a 1)) 27 _ (silent _)
 obey-brief FlowOff a w = silent _
@@ -157,28 +164,39 @@ obey-brief SetSerial a w = serial-brief w (arg a 0) (arg a 1)
 phase-brief : (p : Phase) (w : World) (b : ℕ) → Brief (byPhase p w b)
 unfolding byPhase alone code argument inlineData
 phase-brief Idle w b = by-test Brief (eqb b 254) _ _ (λ _. silent _) (λ _. character-brief w b)
-phase-brief Prefix w b = by-test Brief (eqb (argumentsOf (commandOf b)) 0) _ _ (λ _. obey-brief (commandOf b) [] (outside w)) (λ _. silent _)
+phase-brief Prefix w b = by-test Brief (eqb (argumentsOf (edition w) (commandOf b)) 0) _ _ (λ _. obey-brief (commandOf b) [] (outside w)) (λ _. silent _)
 phase-brief (Gathering c g) w b =
-    brief-if (noBitmap w c g b) 22 _ (by-test Brief (ltb (g + 1) (argumentsOf (commandOf c))) _ _ (λ _. silent _) (λ _. obey-brief (commandOf c) (set (port w .line .args) g b) (outside w)))
+    brief-if (highBitmap w c g b) 19 _ (brief-if (noBitmap w c g b) 22 _
+    (by-test Brief (ltb (g + 1) (argumentsOf (edition w) (commandOf c))) _ _ (λ _. silent _) (λ _. obey-brief (commandOf c) (gathered w g b) (outside w))))
 phase-brief (Inline x1 y1 x2 y2 came) w b = silent _
-phase-brief (Upload kind number size stored waiting byte) w b = data-brief w kind number size stored waiting byte b
+phase-brief (Upload sort number size stored waiting held waited) w b = data-brief w sort number size stored waiting held b
 
--- THE THEOREM, for a byte and for a piece
-pub replies-most : (w : World) (b : ℕ) → length (replies w b) ≤ 2
+time-brief : (p : Phase) (w : World) (ms : ℕ) → Brief (waits p w ms)
+unfolding waits uploadWaits
+time-brief Idle w ms = silent w
+time-brief Prefix w ms = silent w
+time-brief (Gathering c g) w ms = silent w
+time-brief (Inline x1 y1 x2 y2 came) w ms = silent w
+time-brief (Upload sort number size stored waiting held waited) w ms =
+    by-test Brief (leb patience (waited + ms)) _ _ (λ _. brief (refused 26 (254 ∷ 212 ∷ [])) (omega arith)) (λ _. silent _)
+
+-- THE THEOREM, for an input and for a piece
+pub replies-most : (w : World) (i : Input) → length (replies w i) ≤ 2
 unfolding replies
-replies-most w b = phase-brief (port w .line .phase) w b .most
+replies-most w (byte b) = phase-brief (port w .line .phase) w b .most
+replies-most w (time ms) = time-brief (port w .line .phase) w ms .most
 
 pub succ : (n : ℕ) → suc n ≡ 1 + n
 succ n = omega arith
 
-pub said-fits : (w : World) (room : ℕ) (l : List ℕ) → length (said w (take (taken w room l) l)) ≤ room
+pub said-fits : (w : World) (room : ℕ) (l : List Input) → length (said w (take (taken w room l) l)) ≤ room
 unfolding taken said
 said-fits w room [] = omega arith
-said-fits w room (b ∷ l) =
-    by-test (λ (n : ℕ). length (said w (take n (b ∷ l))) ≤ room) (ltb room 2) _ _ (λ _. omega arith)
+said-fits w room (i ∷ l) =
+    by-test (λ (n : ℕ). length (said w (take n (i ∷ l))) ≤ room) (ltb room 2) _ _ (λ _. omega arith)
     (λ e.
-    let r = room - length (replies w b) in
-    let n = taken (step w b) r l in
-    let m = said (step w b) (take n l) in
-    subst (λ (k : ℕ). length (said w (take k (b ∷ l))) ≤ room) (succ n)
-    (rw (length-append (replies w b) m) (omega (arith, ltb-false room 2 e, replies-most w b, said-fits (step w b) r l))))
+    let r = room - length (replies w i) in
+    let n = taken (step w i) r l in
+    let m = said (step w i) (take n l) in
+    subst (λ (k : ℕ). length (said w (take k (i ∷ l))) ≤ room) (succ n)
+    (rw (length-append (replies w i) m) (omega (arith, ltb-false room 2 e, replies-most w i, said-fits (step w i) r l))))

@@ -3,22 +3,25 @@
 use mathlib.Core.Path.{_≡_, refl, _∙_}
 use mathlib.Core.Bool.{Bool, true, false, cond, _&&_, _||_, false≢true}
 use mathlib.Core.List.{List, [], _∷_, _++_}
-use Prim.Native.Nat.{ℕ, _<_}
-use lib.Dec.{eqb}
+use Prim.Native.Nat.{ℕ, _+_, _≤_, _<_}
+use native.Mathlib.Omega.{arith}
+use lib.Dec.{eqb, ltb}
 use borrow.Author.Tests.{eqb-true}
 use Rattle.directory.specs.declared.Entry.{Entry}
-use Rattle.directory.specs.Directory.{entries, isFile, hasFile}
+use Rattle.directory.specs.Directory.{lengthOf, sortOf, entries, bytesIn, isFile, hasFile}
 use Rattle.files.specs.Files.{entry, appended, deleted, storedByte}
 use Rattle.file_laws.specs.Layout.{before, after, without}
-use Rattle.file_laws.proofs.Written.{Proper, and-both}
+use Rattle.file_laws.proofs.Written.{and-both}
 use Rattle.file_laws.proofs.Append.{entries-more}
 use Rattle.file_laws.proofs.Kept.{entries-less, file-kept}
-use Rattle.file_laws.proofs.Rules.{room-for-one, file-more}
+use Rattle.file_laws.proofs.Rules.{file-more}
 use Rattle.file_laws.proofs.Meaning.{long-enough, append-means, delete-means, entries-stored, file-stored}
-use Rattle.rules.specs.Files.{lacksSpace}
+use Rattle.state.specs.Editions.{isEdition}
+use Rattle.rules.specs.Files.{kindOf, lacksSpace}
+use Rattle.rules.specs.Sound.{highest}
 use Rattle.rules.specs.Stays.{Spared, Stays}
 use Rattle.rules.proofs.Good.{StoreGood}
-use Rattle.rules.proofs.GoodStore.{isKind, room, kind-known}
+use Rattle.rules.proofs.GoodStore.{isSort, written, room}
 
 pub stays-same : (s : List ℕ) (k n : ℕ) → hasFile (entries s) k n ≡ true → Stays s s k n
 stays-same s k n h = record { there = h; bytes = refl }
@@ -45,24 +48,25 @@ unfolding hasFile
 has-left [] fs k n h = absurd (false≢true h)
 has-left (e ∷ es) fs k n h = or-then (isFile e k n) (hasFile es k n) (hasFile (es ++ fs) k n) (λ g. has-left es fs k n g) h
 
-pub stays-appended : {m : ℕ} {s : List ℕ} → StoreGood m s → (k n z : ℕ) → isKind k ≡ true → z < 65536 → lacksSpace s z ≡ false
-    → (k′ n′ : ℕ) → hasFile (entries s) k′ n′ ≡ true → Stays s (appended s (entry k n z)) k′ n′
-stays-appended {m} {s} g k n z i hz v k′ n′ h =
+pub stays-appended : {m : ℕ} {s : List ℕ} → StoreGood m s → (e k n z : ℕ) → isEdition e ≡ true → isSort k ≡ true → ltb (highest e) n ≡ false → z < 65536
+    → lacksSpace s (kindOf e k) z ≡ false → (k′ n′ : ℕ) → hasFile (entries s) k′ n′ ≡ true → Stays s (appended s (entry (kindOf e k) n z)) k′ n′
+stays-appended {m} {s} g e k n z he hk hn hz v k′ n′ h =
     let l = long-enough s (g .valid) in
-    let one = room-for-one s (g .bytes) l (room s z v .few) in
-    let p : Proper (entry k n z) = record { known = kind-known k i; small = hz } in
-    rw (append-means s (entry k n z) (g .bytes) (g .valid) p one)
+    let p = written n z hz e k he hk hn .proper in
+    let c = entry (kindOf e k) n z in
+    let one : bytesIn (entries s) + lengthOf (kindOf e k) ≤ 256 = omega (arith, room s (kindOf e k) z v .few) in
+    rw (append-means s c (g .bytes) (g .valid) p one)
     (record {
-      there = rw (entries-more s (entry k n z) (g .bytes) l p one) (has-left (entries s) (entry k n z ∷ []) k′ n′ h);
-      bytes = file-more s (entry k n z) (g .bytes) l (g .valid) p one k′ n′ ∙ rw h;
+      there = rw (entries-more s c (g .bytes) l p one) (has-left (entries s) (c ∷ []) k′ n′ h);
+      bytes = file-more s c (g .bytes) l (g .valid) p one k′ n′ ∙ rw h;
     })
 
 -- ---- another file less
 
 another : (e : Entry) (k n k′ n′ : ℕ) → isFile e k n ≡ true → (eqb k k′ && eqb n n′) ≡ false → isFile e k′ n′ ≡ false
 another e k n k′ n′ h f =
-    let q = and-both (eqb (e .kind) k) (eqb (e .number) n) h in
-    rw (eqb-true (e .kind) k (q .0), eqb-true (e .number) n (q .1)) f
+    let q = and-both (eqb (sortOf (e .kind)) k) (eqb (e .number) n) h in
+    rw (eqb-true (sortOf (e .kind)) k (q .0), eqb-true (e .number) n (q .1)) f
 
 less-cons : (e : Entry) (es : List Entry) (k n k′ n′ : ℕ) (t : Bool) → isFile e k n ≡ t → (eqb k k′ && eqb n n′) ≡ false
     → (hasFile es k′ n′ ≡ true → hasFile (without es k n) k′ n′ ≡ true) → (isFile e k′ n′ || hasFile es k′ n′) ≡ true

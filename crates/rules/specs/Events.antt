@@ -1,10 +1,10 @@
--- What each byte means for bars: its footprint, a bar set up, or a bar written. A refusal means nothing.
+-- What each input means for bars: its footprint, a bar set up, or a bar written. A refusal means nothing, and time does not.
 -- Assumes nothing.
 use mathlib.Core.List.{List, []}
 use mathlib.Core.Bool.{cond}
 use Prim.Native.Nat.{ℕ, _+_, _%_}
 use lib.Dec.{eqb, ltb}
-use lib.ListN.{take, drop, set}
+use lib.ListN.{take, drop}
 use Rattle.pixels.specs.Regions.{point, box, rectangle, everywhere}
 use Rattle.line.specs.Line.{line}
 use Rattle.rectangle.specs.Frame.{frame}
@@ -20,10 +20,11 @@ use Rattle.state.specs.declared.Phase.{Phase}
 use Rattle.state.specs.declared.Phase.the-variants.{Idle, Prefix, Gathering, Inline, Upload}
 use Rattle.state.specs.State.{barOf, barAt, stripAt}
 use Rattle.state.specs.Commands.{commandOf, argumentsOf}
-use Rattle.rules.specs.World.{World, height, port, panel, Outcome, done, refused, arg}
+use Rattle.rules.specs.World.{World, height, edition, port, panel, Outcome, done, refused, arg}
+use Rattle.rules.specs.Numbers.{numberBytes, numberAt}
 use Rattle.rules.specs.Fonts.{Opened, opened, shut, openFont}
 use Rattle.rules.specs.Text.{Place, place, nowhere, wrapped, fitted, Drawn, drawn, ignored, drawnBy}
-use Rattle.rules.specs.Step.{outcome, noBitmap}
+use Rattle.rules.specs.Step.{gathered, Input, byte, time, outcome}
 
 -- the framebuffer and the bars
 abbrev pub view : World → View
@@ -77,7 +78,8 @@ meaning WriteBar a w = wrote (arg a 0) (arg a 1)
 meaning SetUpStrip a w = quiet
 meaning ShiftStrip a w =
     painted (rectangle (stripAt (panel w) (arg a 0 % 128) .x1) (stripAt (panel w) (arg a 0 % 128) .y1) (stripAt (panel w) (arg a 0 % 128) .x2) (stripAt (panel w) (arg a 0 % 128) .y2))
-meaning ShowBitmap a w = bitmapEvent (w .store) (findOf (w .store) 2 (arg a 0)) (arg a 1) (arg a 2)
+meaning ShowBitmap a w =
+    bitmapEvent (w .store) (findOf (w .store) 2 (numberAt (edition w) a 0)) (arg a (numberBytes (edition w))) (arg a (numberBytes (edition w) + 1))
 meaning DrawInline a w = painted (rectangle (arg a 0) (arg a 1) (arg a 2) (arg a 3))
 meaning UploadFont a w = quiet
 meaning UploadBitmap a w = quiet
@@ -94,16 +96,15 @@ meaning SetSerial a w = quiet
 
 unfoldable pub meant : Phase → World → ℕ → Event
 meant Idle w b = cond (eqb b 254) quiet (characterEvent w b)
-meant Prefix w b = cond (eqb (argumentsOf (commandOf b)) 0) (meaning (commandOf b) [] w) quiet
-meant (Gathering code got) w b =
-    cond (noBitmap w code got b) quiet
-    (cond (ltb (got + 1) (argumentsOf (commandOf code))) quiet (meaning (commandOf code) (set (port w .line .args) got b) w))
+meant Prefix w b = cond (eqb (argumentsOf (edition w) (commandOf b)) 0) (meaning (commandOf b) [] w) quiet
+meant (Gathering code got) w b = cond (ltb (got + 1) (argumentsOf (edition w) (commandOf code))) quiet (meaning (commandOf code) (gathered w got b) w)
 meant (Inline x1 y1 x2 y2 came) w b = painted (rectangle x1 y1 x2 y2)
-meant (Upload kind number size stored waiting byte) w b = quiet
+meant (Upload sort number size stored waiting held waited) w b = quiet
 
 abbrev pub unlessRefused : Outcome → Event → Event
 unlessRefused (done v r) e = e
 unlessRefused (refused n r) e = quiet
 
-unfoldable pub event : World → ℕ → Event
-event w b = unlessRefused (outcome w b) (meant (port w .line .phase) w b)
+unfoldable pub event : World → Input → Event
+event w (byte b) = unlessRefused (outcome w (byte b)) (meant (port w .line .phase) w b)
+event w (time ms) = quiet

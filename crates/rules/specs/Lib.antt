@@ -1,4 +1,5 @@
 pub mod World
+pub mod Numbers
 pub mod Fonts
 pub mod Text
 pub mod Drawing

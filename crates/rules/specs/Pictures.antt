@@ -5,7 +5,7 @@ use mathlib.Core.Bool.{cond, not}
 use Prim.Native.Nat.{ℕ, _+_}
 use lib.Dec.{ltb}
 use lib.ListN.{take, drop}
-use Rattle.refusals.specs.Refusals.{cornersOutOfOrder}
+use Rattle.refusals.specs.Refusals.{cornersOutOfOrder, numberOutOfRange}
 use Rattle.directory.specs.declared.Found.{Found}
 use Rattle.directory.specs.declared.Found.the-variants.{At, Nothing}
 use Rattle.directory.specs.Directory.{findOf, foundNumber}
@@ -18,6 +18,7 @@ use Rattle.state.specs.declared.Phase.the-variants.{Idle, Inline}
 use Rattle.state.specs.State.{withPhase, noArgs}
 use Rattle.state.specs.Soundness.{inlineBytes}
 use Rattle.rules.specs.World.{World, port, withFramebuffer, withPort, Outcome, quietly, refused, refuseIf}
+use Rattle.rules.specs.Numbers.{tooHigh}
 use Rattle.rules.specs.Drawing.{ordered}
 
 abbrev pub inPhase : World → Phase → World
@@ -33,8 +34,9 @@ unfoldable pub bitmapAt : World → Found → ℕ → ℕ → Outcome
 bitmapAt w Nothing x y = refused (foundNumber Nothing) []
 bitmapAt w (At position start size) x y = bitmapIn w (take size (drop start (w .store))) x y
 
+-- 19
 unfoldable pub showBitmap : World → ℕ → ℕ → ℕ → Outcome
-showBitmap w n x y = bitmapAt w (findOf (w .store) 2 n) x y
+showBitmap w n x y = refuseIf (tooHigh n) numberOutOfRange (bitmapAt w (findOf (w .store) 2 n) x y)
 
 -- 18; each row's data start on a new byte, even where clipped
 unfoldable pub beginInline : World → ℕ → ℕ → ℕ → ℕ → Outcome

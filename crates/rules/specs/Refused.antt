@@ -4,12 +4,12 @@ use mathlib.Core.Path.{_≡_}
 use Prim.Native.Nat.{ℕ, _+_, _%_}
 use Rattle.state.specs.declared.Phase.the-variants.{Idle}
 use Rattle.state.specs.State.{noArgs}
-use Rattle.rules.specs.World.{World, height, port, panel}
+use Rattle.rules.specs.World.{World, port, panel}
 
 pub record Unaltered (w v : World) (n : ℕ) : Type 0 where
   pub framebuffer : v .framebuffer ≡ w .framebuffer
   pub store : v .store ≡ w .store
-  pub height : height v ≡ height w
+  pub config : v .state .config ≡ w .state .config
   pub panel-same : panel v ≡ panel w
   pub text : port v .text ≡ port w .text
   pub drawing : port v .drawing ≡ port w .drawing

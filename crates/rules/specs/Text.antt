@@ -5,7 +5,7 @@ use mathlib.Core.Bool.{Bool, true, cond, not, _&&_, _||_}
 use Prim.Native.Nat.{ℕ, _+_, _-_, _*_}
 use lib.Dec.{eqb, leb}
 use lib.ListN.{drop}
-use Rattle.refusals.specs.Refusals.{outOfBounds, glyphDoesNotFit, accepted}
+use Rattle.refusals.specs.Refusals.{outOfBounds, numberOutOfRange, glyphDoesNotFit, accepted}
 use Rattle.pixels.specs.Framebuffer.{Picture, width, put, plain}
 use Rattle.pixels.specs.Regions.{box}
 use Rattle.bitmap.specs.Bitmaps.{packed}
@@ -16,6 +16,7 @@ use Rattle.opened_font.specs.declared.Glyph.the-variants.{At, Missing}
 use Rattle.opened_font.specs.Glyphs.{glyphOf}
 use Rattle.state.specs.declared.Text.{Text}
 use Rattle.rules.specs.World.{World, height, port, withFramebuffer, putText, Outcome, quietly, refused, refuseIf, arg}
+use Rattle.rules.specs.Numbers.{tooHigh}
 use Rattle.rules.specs.Fonts.{Opened, opened, shut, openFont}
 
 -- ---- settings
@@ -46,13 +47,13 @@ withMetrics t a = textOf (t .font) (t .x) (t .y) (arg a 0) (arg a 1) (arg a 2) (
 
 -- ---- commands
 
--- the current font: 22, 23
+-- the current font: 19, 22, 23
 unfoldable pub fontChosen : World → ℕ → Opened → Outcome
 fontChosen w n (opened f) = quietly (putText w (withFont (port w .text) n))
 fontChosen w n (shut r) = refused r []
 
 unfoldable pub chooseFont : World → ℕ → Outcome
-chooseFont w n = fontChosen w n (openFont (height w) (w .store) n)
+chooseFont w n = refuseIf (tooHigh n) numberOutOfRange (fontChosen w n (openFont (height w) (w .store) n))
 
 -- the text point by column and row, from 1, of a font's nominal width and height: 17
 abbrev pub placeX : Text → List ℕ → ℕ → ℕ

@@ -1,4 +1,4 @@
--- What a byte finds and leaves: the framebuffer (the rules paper's glass), the store and the state.
+-- What an input finds and leaves: the framebuffer (the rules paper's glass), the store and the state.
 -- Assumes nothing.
 use mathlib.Core.List.{List, []}
 use mathlib.Core.Bool.{Bool, cond}
@@ -18,9 +18,12 @@ pub record World : Type 0 where
 abbrev pub world : List ℕ → List ℕ → State → World
 world g s t = record { framebuffer = g; store = s; state = t }
 
--- the framebuffer's rows, as the board chose them at start
+-- the framebuffer's rows and the edition of the upload protocol, as the board chose them at start
 abbrev pub height : World → ℕ
-height w = w .state .height
+height w = w .state .config .height
+
+abbrev pub edition : World → ℕ
+edition w = w .state .config .edition
 
 abbrev pub port : World → Port
 port w = w .state .port
@@ -35,10 +38,10 @@ abbrev pub withStore : World → List ℕ → World
 withStore w s = world (w .framebuffer) s (w .state)
 
 abbrev pub withPort : World → Port → World
-withPort w p = world (w .framebuffer) (w .store) (state (height w) p (panel w))
+withPort w p = world (w .framebuffer) (w .store) (state (w .state .config) p (panel w))
 
 abbrev pub withPanel : World → Panel → World
-withPanel w q = world (w .framebuffer) (w .store) (state (height w) (port w) q)
+withPanel w q = world (w .framebuffer) (w .store) (state (w .state .config) (port w) q)
 
 abbrev pub putText : World → Text → World
 putText w t = withPort w (withText (port w) t)

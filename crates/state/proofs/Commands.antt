@@ -3,16 +3,26 @@
 use mathlib.Core.Path.{_≡_, refl, sym, ap}
 use mathlib.Core.List.{List, [], _∷_}
 use Prim.Native.Nat.{ℕ}
-use borrow.Author.Tests.{ne-eqb}
+use borrow.Author.Tests.{eq-eqb, ne-eqb}
+use Rattle.state.specs.declared.Counts.{Counts}
 use Rattle.state.specs.declared.Command.{Command}
+use Rattle.state.specs.Editions.{newer}
 use Rattle.state.specs.declared.Command.the-variants.{Unknown}
-use Rattle.state.specs.Commands.{codeOf, argumentsOf, known, coded, commandOf}
+use Rattle.state.specs.Commands.{rowOf, codeOf, argumentsOf, known, coded, commandOf}
 
 pub command-at : (n k : ℕ) → n ≡ k → commandOf k ≡ commandOf n
 command-at n k e = ap commandOf (sym e)
 
-pub arguments-at : (c k : Command) → c ≡ k → argumentsOf k ≡ argumentsOf c
-arguments-at c k e = ap argumentsOf (sym e)
+pub counts-at : (c k : Command) → c ≡ k → rowOf k .counts ≡ rowOf c .counts
+counts-at c k e = ap (λ (d : Command). rowOf d .counts) (sym e)
+
+-- by the edition
+module _ (e : ℕ) (c : Command) (n : Counts) (q : n ≡ rowOf c .counts) where
+  pub newer-count : e ≡ newer → n .newer ≡ argumentsOf e c
+  newer-count h = rw (eq-eqb e newer h, q)
+
+  pub older-count : (e ≡ newer → ⊥) → n .older ≡ argumentsOf e c
+  older-count h = rw (ne-eqb e newer h, q)
 
 -- P, and n is the code of none of them
 abbrev Others : ℕ → Type 0 → List Command → Type 0

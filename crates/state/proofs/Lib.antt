@@ -1,4 +1,5 @@
 pub mod Commands
+pub mod Editions
 pub mod Every
 pub mod Parts
 pub mod Start

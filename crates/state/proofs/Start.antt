@@ -9,26 +9,28 @@ use Rattle.canvas.specs.Sizes.{isHeight}
 use Rattle.state.specs.declared.Text.{Text}
 use Rattle.state.specs.declared.Port.{Port}
 use Rattle.state.specs.declared.Panel.{Panel}
-use Rattle.state.specs.State.{noBar, noStrip, state, startText, startPort, startPanel, startState, withText}
-use Rattle.state.specs.Soundness.{every, soundPhase, soundText, soundPort, soundBar, soundStrip, soundPanel, soundState, thresholdsFit}
+use Rattle.state.specs.declared.Config.{Config}
+use Rattle.state.specs.Editions.{isEdition}
+use Rattle.state.specs.State.{noBar, noStrip, config, state, startText, startPort, startPanel, startState, withText}
+use Rattle.state.specs.Soundness.{every, soundPhase, soundText, soundPort, soundBar, soundStrip, soundPanel, soundConfig, soundState, thresholdsFit}
 use Rattle.state.specs.Canonical.{canonicalPhase, canonicalPort, canonicalBar, canonicalStrip, canonicalSerial, canonicalPanel, canonicalState}
-use Rattle.state.specs.Fits.{BarFits, StripFits, Fits}
+use Rattle.state.specs.Fits.{BarFits, StripFits, ConfigFits, Fits}
 
-pub start-sound : (h : ℕ) → isHeight h ≡ true → soundState (startState h) ≡ true
+pub start-sound : (c : Config) → soundConfig c ≡ true → soundState (startState c) ≡ true
 unfolding every soundPhase soundText soundPort soundBar soundStrip soundPanel soundState
-start-sound h e = rw e
+start-sound c e = rw e
 
--- with a height that there is not it would be unsound
-pub start-unsound : soundState (startState 63) ≡ false
-unfolding soundState isHeight
-start-unsound = refl
+-- with a height or an edition that there is not it would be unsound
+pub start-unsound : (soundState (startState (config 63 1)) ≡ false) × (soundState (startState (config 64 3)) ≡ false)
+unfolding soundState soundConfig isHeight isEdition
+start-unsound = (refl, refl)
 
 pub start-thresholds : (h : ℕ) → thresholdsFit (startPort h .flow) ≡ true
 start-thresholds h = refl
 
-pub start-canonical : (h : ℕ) → canonicalState (startState h) ≡ true
+pub start-canonical : (c : Config) → canonicalState (startState c) ≡ true
 unfolding every canonicalPhase canonicalPort canonicalBar canonicalStrip canonicalSerial canonicalPanel canonicalState
-start-canonical h = refl
+start-canonical c = refl
 
 -- one thing again and again, and behind the end too
 pub all-replicate : {A : Type 0} (P : A → Type 0) (a : A) → P a → (n i : ℕ) → P (getD (replicate n a) i a)
@@ -36,14 +38,14 @@ all-replicate P a h zero i = h
 all-replicate P a h (suc n) zero = h
 all-replicate P a h (suc n) (suc i) = all-replicate P a h n i
 
-pub start-fits : (h : ℕ) → h < 256 → Fits (startState h)
-start-fits h l =
+pub start-fits : (c : Config) → ConfigFits c → Fits (startState c)
+start-fits c f =
     record {
-      height = l;
+      config = f;
       port = record {
         phase = tt;
         args = record { six = refl; bytes = all-replicate (λ n. n < 256) 0 (omega arith) 6 };
-        text = omega arith;
+        text = omega (arith, f .height);
         drawing = omega arith;
         flow = omega arith;
         refusals = omega arith;
@@ -62,5 +64,5 @@ start-fits h l =
 pub port-started : (h : ℕ) (t : Text) → t ≡ startText h → withText (startPort h) t ≡ startPort h
 port-started h t e = rw e
 
-pub state-started : (h : ℕ) (p : Port) (q : Panel) → p ≡ startPort h → q ≡ startPanel → state h p q ≡ startState h
-state-started h p q e f = rw (e, f)
+pub state-started : (c : Config) (p : Port) (q : Panel) → p ≡ startPort (c .height) → q ≡ startPanel → state c p q ≡ startState c
+state-started c p q e f = rw (e, f)

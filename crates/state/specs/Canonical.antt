@@ -23,16 +23,16 @@ isZero n = eqb n 0
 abbrev pub allZero : List ℕ → Bool
 allZero l = every isZero l
 
--- the kind is 1 or 2, and a byte that does not wait is 0
+-- the sort is 1 or 2, and a byte that does not wait is 0
 unfoldable pub canonicalUpload : ℕ → Bool → ℕ → Bool
-canonicalUpload kind waiting byte = (eqb kind 1 || eqb kind 2) && (waiting || eqb byte 0)
+canonicalUpload sort waiting byte = (eqb sort 1 || eqb sort 2) && (waiting || eqb byte 0)
 
 unfoldable pub canonicalPhase : Phase → Bool
 canonicalPhase Idle = true
 canonicalPhase Prefix = true
 canonicalPhase (Gathering code got) = true
 canonicalPhase (Inline x1 y1 x2 y2 came) = true
-canonicalPhase (Upload kind number size stored waiting byte) = canonicalUpload kind waiting byte
+canonicalPhase (Upload sort number size stored waiting byte waited) = canonicalUpload sort waiting byte
 
 -- how many arguments stand gathered
 abbrev pub gathered : Phase → ℕ
@@ -40,7 +40,7 @@ gathered Idle = 0
 gathered Prefix = 0
 gathered (Gathering code got) = got
 gathered (Inline x1 y1 x2 y2 came) = 0
-gathered (Upload kind number size stored waiting byte) = 0
+gathered (Upload sort number size stored waiting byte waited) = 0
 
 -- arguments not gathered
 abbrev pub canonicalArguments : Phase → List ℕ → Bool

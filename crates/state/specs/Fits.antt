@@ -16,6 +16,7 @@ use Rattle.state.specs.declared.BarSlot.{BarSlot}
 use Rattle.state.specs.declared.Strip.{Strip}
 use Rattle.state.specs.declared.Serial.{Serial}
 use Rattle.state.specs.declared.Panel.{Panel}
+use Rattle.state.specs.declared.Config.{Config}
 use Rattle.state.specs.declared.State.{State}
 use Rattle.state.specs.State.{barAt, stripAt}
 
@@ -26,14 +27,14 @@ PhaseFits Idle = Unit {0}
 PhaseFits Prefix = Unit {0}
 PhaseFits (Gathering code got) = (code < 256) × (got < 256)
 PhaseFits (Inline x1 y1 x2 y2 came) = (x1 < 256) × (y1 < 256) × (x2 < 256) × (y2 < 256) × (came < 65536)
-PhaseFits (Upload kind number size stored waiting byte) = (kind < 256) × (number < 256) × (size < 65536) × (stored < 65536) × (byte < 256)
+PhaseFits (Upload sort number size stored waiting byte waited) = (sort < 256) × (number < 65536) × (size < 65536) × (stored < 65536) × (byte < 256) × (waited < 65536)
 
 pub record ArgsFit (a : List ℕ) : Type 0 where
   pub six : length a ≡ 6
   pub bytes : Bytes a
 
 pub record TextFits (t : Text) : Type 0 where
-  pub font : t .font < 256
+  pub font : t .font < 65536
   pub x : t .x < 65536
   pub y : t .y < 256
   pub left : t .left < 256
@@ -93,7 +94,11 @@ pub record PanelFits (q : Panel) : Type 0 where
 
 -- ---- the whole
 
+pub record ConfigFits (c : Config) : Type 0 where
+  pub height : c .height < 256
+  pub edition : c .edition < 256
+
 pub record Fits (s : State) : Type 0 where
-  pub height : s .height < 256
+  pub config : ConfigFits (s .config)
   pub port : PortFits (s .port)
   pub panel : PanelFits (s .panel)

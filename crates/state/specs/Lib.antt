@@ -1,3 +1,4 @@
+pub mod Editions
 pub mod Commands
 pub mod State
 pub mod Soundness

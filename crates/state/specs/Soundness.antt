@@ -18,7 +18,9 @@ use Rattle.state.specs.declared.Port.{Port}
 use Rattle.state.specs.declared.BarSlot.{BarSlot}
 use Rattle.state.specs.declared.Strip.{Strip}
 use Rattle.state.specs.declared.Panel.{Panel}
+use Rattle.state.specs.declared.Config.{Config}
 use Rattle.state.specs.declared.State.{State}
+use Rattle.state.specs.Editions.{isEdition, patience}
 use Rattle.state.specs.Commands.{commandOf, argumentsOf}
 
 -- a test of every element
@@ -30,31 +32,31 @@ every test (a ∷ l) = test a && every test l
 abbrev pub inlineBytes : ℕ → ℕ → ℕ → ℕ → ℕ
 inlineBytes x1 y1 x2 y2 = rowBytes x1 x2 * (y2 - y1 + 1)
 
--- gathering has fewer bytes than its command needs
-abbrev pub soundGathering : ℕ → ℕ → Bool
-soundGathering code got = ltb got (argumentsOf (commandOf code))
+-- gathering has fewer bytes than its command needs in edition e
+abbrev pub soundGathering : ℕ → ℕ → ℕ → Bool
+soundGathering e code got = ltb got (argumentsOf e (commandOf code))
 
 -- data in line has ordered corners and bytes still to come
 unfoldable pub soundInline : ℕ → ℕ → ℕ → ℕ → ℕ → Bool
 soundInline x1 y1 x2 y2 came = leb x1 x2 && leb y1 y2 && ltb came (inlineBytes x1 y1 x2 y2)
 
--- an upload has stored fewer bytes than its size
-abbrev pub soundUpload : ℕ → ℕ → Bool
-soundUpload size stored = ltb stored size
+-- an upload has stored fewer bytes than its size, and has not waited too long
+unfoldable pub soundUpload : ℕ → ℕ → ℕ → Bool
+soundUpload size stored waited = ltb stored size && ltb waited patience
 
-unfoldable pub soundPhase : Phase → Bool
-soundPhase Idle = true
-soundPhase Prefix = true
-soundPhase (Gathering code got) = soundGathering code got
-soundPhase (Inline x1 y1 x2 y2 came) = soundInline x1 y1 x2 y2 came
-soundPhase (Upload kind number size stored waiting byte) = soundUpload size stored
+unfoldable pub soundPhase : ℕ → Phase → Bool
+soundPhase e Idle = true
+soundPhase e Prefix = true
+soundPhase e (Gathering code got) = soundGathering e code got
+soundPhase e (Inline x1 y1 x2 y2 came) = soundInline x1 y1 x2 y2 came
+soundPhase e (Upload sort number size stored waiting byte waited) = soundUpload size stored waited
 
 -- the text point
 unfoldable pub soundText : Text → Bool
 soundText t = leb (t .x) 495 && leb (t .y) 255
 
-unfoldable pub soundPort : Port → Bool
-soundPort p = soundPhase (p .line .phase) && soundText (p .text)
+unfoldable pub soundPort : ℕ → Port → Bool
+soundPort e p = soundPhase e (p .line .phase) && soundText (p .text)
 
 -- on a framebuffer of h rows, with x1 < x2 and y1 < y2
 abbrev pub soundCorners : ℕ → ℕ → ℕ → ℕ → ℕ → Bool
@@ -73,9 +75,13 @@ soundStrip h s = not (s .on) || soundCorners h (s .x1) (s .y1) (s .x2) (s .y2)
 unfoldable pub soundPanel : ℕ → Panel → Bool
 soundPanel h q = every (soundBar h) (q .bars) && every (soundStrip h) (q .strips)
 
--- a height that there is, and all else by it
+-- a height and an edition that there are
+unfoldable pub soundConfig : Config → Bool
+soundConfig c = isHeight (c .height) && isEdition (c .edition)
+
+-- and all else by them
 unfoldable pub soundState : State → Bool
-soundState s = isHeight (s .height) && soundPort (s .port) && soundPanel (s .height) (s .panel)
+soundState s = soundConfig (s .config) && soundPort (s .config .edition) (s .port) && soundPanel (s .config .height) (s .panel)
 
 -- ---- beside soundness
 

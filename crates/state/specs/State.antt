@@ -19,6 +19,7 @@ use Rattle.state.specs.declared.Strip.{Strip}
 use Rattle.state.specs.declared.Serial.{Serial}
 use Rattle.state.specs.declared.Backlight.{Backlight}
 use Rattle.state.specs.declared.Panel.{Panel}
+use Rattle.state.specs.declared.Config.{Config}
 use Rattle.state.specs.declared.State.{State}
 
 -- ---- nothing set up
@@ -78,11 +79,14 @@ startPanel =
       backlight = record { on = true; minutes = 0 };
     }
 
-abbrev pub state : ℕ → Port → Panel → State
-state h p q = record { height = h; port = p; panel = q }
+abbrev pub config : ℕ → ℕ → Config
+config h e = record { height = h; edition = e }
 
-abbrev pub startState : ℕ → State
-startState h = state h (startPort h) startPanel
+abbrev pub state : Config → Port → Panel → State
+state c p q = record { config = c; port = p; panel = q }
+
+abbrev pub startState : Config → State
+startState c = state c (startPort (c .height)) startPanel
 
 -- ---- parts put anew
 

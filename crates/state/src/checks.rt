@@ -1,4 +1,7 @@
 // Whether the parts of a state are sound, each by the definition of its name.
+use super::NEWER;
+use super::OLDER;
+use super::PATIENCE;
 use super::arguments_of;
 use super::command_of;
 use bar_graph::Bar;
@@ -7,6 +10,7 @@ use canvas::WIDTH;
 ghost use mathlib.Core.Path.{_≡_};
 ghost use mathlib.Core.Bool.{_&&_, _||_};
 ghost use Prim.Native.Nat.{_-_, _*_, _<_, _≤_};
+ghost use Rattle.state.specs.Editions.{isEdition};
 ghost use Rattle.state.specs.Soundness.{inlineBytes, soundGathering, soundInline, soundUpload, soundCorners, soundSetUp};
 ghost use Rattle.state.specs.Canonical.{canonicalUpload};
 
@@ -54,11 +58,17 @@ pub fn inline_bytes(x1: u8, y1: u8, x2: u8, y2: u8) -> u16
     product(across, rows)
 }
 
-pub fn is_gathering(code: u8, got: u8) -> bool
-    ensures { λ r. ⌜ r ≡ soundGathering code got ⌝ }
+pub fn is_edition(edition: u32) -> bool
+    ensures { λ r. ⌜ r ≡ isEdition edition ⌝ }
+{
+    either(edition == OLDER as u32, edition == NEWER as u32)
+}
+
+pub fn is_gathering(edition: u8, code: u8, got: u8) -> bool
+    ensures { λ r. ⌜ r ≡ soundGathering edition code got ⌝ }
 {
     let command = command_of(code);
-    got < arguments_of(command)
+    got < arguments_of(edition, command)
 }
 
 pub fn is_inline(x1: u8, y1: u8, x2: u8, y2: u8, done: u16) -> bool
@@ -73,11 +83,12 @@ pub fn is_inline(x1: u8, y1: u8, x2: u8, y2: u8, done: u16) -> bool
     done < inline_bytes(x1, y1, x2, y2)
 }
 
-pub fn is_upload(kind: u8, size: u16, stored: u16, waiting: bool, byte: u8) -> bool
-    ensures { λ r. ⌜ r ≡ (soundUpload size stored && canonicalUpload kind waiting byte) ⌝ }
+pub fn is_upload(sort: u8, size: u16, stored: u16, waiting: bool, byte: u8, waited: u16) -> bool
+    ensures { λ r. ⌜ r ≡ (soundUpload size stored waited && canonicalUpload sort waiting byte) ⌝ }
 {
-    let known = either(kind == 1, kind == 2);
-    both(stored < size, both(known, either(waiting, byte == 0)))
+    let known = either(sort == 1, sort == 2);
+    let under_way = both(stored < size, waited < PATIENCE);
+    both(under_way, both(known, either(waiting, byte == 0)))
 }
 
 pub fn are_corners_sound(height: u8, x1: u8, y1: u8, x2: u8, y2: u8) -> bool

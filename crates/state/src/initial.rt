@@ -1,8 +1,9 @@
-// The state at the start, for a framebuffer of `height` rows.
+// The state at the start.
 use super::ARGUMENTS;
 use super::BARS;
 use super::Backlight;
 use super::BarSlot;
+use super::Config;
 use super::Drawing;
 use super::Line;
 use super::Panel;
@@ -97,12 +98,12 @@ fn start_panel() -> Panel
     }
 }
 
-pub fn start_state(height: u8) -> State
-    ensures { λ r. ⌜ r ≡ startState height ⌝ }
+pub fn start_state(config: Config) -> State
+    ensures { λ r. ⌜ r ≡ startState config ⌝ }
 {
     State {
-        height,
-        port: start_port(height),
+        config,
+        port: start_port(config.height),
         panel: start_panel(),
     }
 }

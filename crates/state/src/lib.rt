@@ -1,4 +1,4 @@
-// What the display remembers between bytes, by value: its height, what belongs to one serial line (Port) and what belongs to the display (Panel).
+// What the display remembers between bytes, by value: what the board chose at start, what belongs to one serial line (Port) and what belongs to the display (Panel).
 mod checks;
 mod initial;
 
@@ -6,6 +6,7 @@ use bar_graph::Bar;
 use canvas::Colour;
 pub use checks::are_corners_sound;
 pub use checks::inline_bytes;
+pub use checks::is_edition;
 pub use checks::is_gathering;
 pub use checks::is_inline;
 pub use checks::is_set_up_sound;
@@ -14,7 +15,15 @@ pub use initial::start_state;
 pub use initial::start_text;
 use queue::Flow;
 ghost use mathlib.Core.Path.{_≡_};
-ghost use Rattle.state.specs.Commands.{commandOf, argumentsOf};
+ghost use Rattle.state.specs.Commands.{rowOf, argumentsOf, commandOf};
+
+// The editions of the upload protocol.
+pub const OLDER: u8 = 1;
+
+pub const NEWER: u8 = 2;
+
+// The milliseconds after which an upload is dropped.
+pub const PATIENCE: u16 = 2100;
 
 pub enum Command {
     Unknown,
@@ -93,45 +102,60 @@ pub fn command_of(code: u8) -> Command
     }
 }
 
-// How many fixed arguments it has.
-pub fn arguments_of(command: Command) -> u8
-    ensures { λ r. ⌜ r ≡ argumentsOf command ⌝ }
+// How many fixed arguments a command has in each edition.
+pub struct Counts {
+    pub older: u8,
+    pub newer: u8,
+}
+
+fn counts_of(command: Command) -> Counts
+    ensures { λ r. ⌜ r ≡ rowOf command .counts ⌝ }
 {
     match command {
-        Command::Unknown => 0,
-        Command::Clear => 0,
-        Command::Home => 0,
-        Command::SetPoint => 2,
-        Command::SetPlace => 2,
-        Command::WrapOn => 0,
-        Command::WrapOff => 0,
-        Command::ScrollOn => 0,
-        Command::ScrollOff => 0,
-        Command::ChooseFont => 1,
-        Command::SetMetrics => 5,
-        Command::SetColour => 1,
-        Command::DrawPixel => 2,
-        Command::DrawLine => 4,
-        Command::ContinueLine => 2,
-        Command::DrawFrame => 5,
-        Command::FillRectangle => 5,
-        Command::SetUpBar => 6,
-        Command::WriteBar => 2,
-        Command::SetUpStrip => 5,
-        Command::ShiftStrip => 1,
-        Command::ShowBitmap => 3,
-        Command::DrawInline => 4,
-        Command::UploadFont => 3,
-        Command::UploadBitmap => 3,
-        Command::DeleteFile => 2,
-        Command::Purge => 2,
-        Command::FlowOn => 2,
-        Command::FlowOff => 0,
-        Command::SetContrast => 1,
-        Command::BacklightOn => 1,
-        Command::BacklightOff => 0,
-        Command::SetSerial => 2,
+        Command::Unknown => Counts { older: 0, newer: 0 },
+        Command::Clear => Counts { older: 0, newer: 0 },
+        Command::Home => Counts { older: 0, newer: 0 },
+        Command::SetPoint => Counts { older: 2, newer: 2 },
+        Command::SetPlace => Counts { older: 2, newer: 2 },
+        Command::WrapOn => Counts { older: 0, newer: 0 },
+        Command::WrapOff => Counts { older: 0, newer: 0 },
+        Command::ScrollOn => Counts { older: 0, newer: 0 },
+        Command::ScrollOff => Counts { older: 0, newer: 0 },
+        Command::ChooseFont => Counts { older: 1, newer: 2 },
+        Command::SetMetrics => Counts { older: 5, newer: 5 },
+        Command::SetColour => Counts { older: 1, newer: 1 },
+        Command::DrawPixel => Counts { older: 2, newer: 2 },
+        Command::DrawLine => Counts { older: 4, newer: 4 },
+        Command::ContinueLine => Counts { older: 2, newer: 2 },
+        Command::DrawFrame => Counts { older: 5, newer: 5 },
+        Command::FillRectangle => Counts { older: 5, newer: 5 },
+        Command::SetUpBar => Counts { older: 6, newer: 6 },
+        Command::WriteBar => Counts { older: 2, newer: 2 },
+        Command::SetUpStrip => Counts { older: 5, newer: 5 },
+        Command::ShiftStrip => Counts { older: 1, newer: 1 },
+        Command::ShowBitmap => Counts { older: 3, newer: 4 },
+        Command::DrawInline => Counts { older: 4, newer: 4 },
+        Command::UploadFont => Counts { older: 3, newer: 6 },
+        Command::UploadBitmap => Counts { older: 3, newer: 6 },
+        Command::DeleteFile => Counts { older: 2, newer: 3 },
+        Command::Purge => Counts { older: 2, newer: 2 },
+        Command::FlowOn => Counts { older: 2, newer: 2 },
+        Command::FlowOff => Counts { older: 0, newer: 0 },
+        Command::SetContrast => Counts { older: 1, newer: 1 },
+        Command::BacklightOn => Counts { older: 1, newer: 1 },
+        Command::BacklightOff => Counts { older: 0, newer: 0 },
+        Command::SetSerial => Counts { older: 2, newer: 2 },
     }
+}
+
+pub fn arguments_of(edition: u8, command: Command) -> u8
+    ensures { λ r. ⌜ r ≡ argumentsOf edition command ⌝ }
+{
+    let counts = counts_of(command);
+    if edition == NEWER {
+        return counts.newer;
+    }
+    counts.older
 }
 
 // What the line is in the middle of; at most one thing, since it is one of these.
@@ -152,14 +176,16 @@ pub enum Phase {
         y2: u8,
         done: u16,
     },
-    // A file of `size` bytes, `stored` of them confirmed; `waiting` where `byte` was echoed and is not confirmed yet.
+    // A file of `size` bytes, `stored` of them confirmed; `waiting` where `byte` was echoed and is not confirmed yet. So many milliseconds have passed since its
+    // start or its last byte.
     Upload {
-        kind: u8,
-        number: u8,
+        sort: u8,
+        number: u16,
         size: u16,
         stored: u16,
         waiting: bool,
         byte: u8,
+        waited: u16,
     },
 }
 
@@ -167,7 +193,7 @@ pub enum Phase {
 pub const ARGUMENTS: usize = 6;
 
 pub struct Text {
-    pub font: u8,
+    pub font: u16,
     pub x: u16,
     pub y: u8,
     pub left: u8,
@@ -242,9 +268,14 @@ pub struct Panel {
     pub backlight: Backlight,
 }
 
-pub struct State {
-    // The framebuffer's rows, as the board chose them at start.
+// What the board chose at start: the framebuffer's rows, and the edition of the upload protocol.
+pub struct Config {
     pub height: u8,
+    pub edition: u8,
+}
+
+pub struct State {
+    pub config: Config,
     pub port: Port,
     pub panel: Panel,
 }

@@ -5,23 +5,25 @@ use mathlib.Core.Bool.{Bool, true, false, cond, not, _&&_, _||_}
 use mathlib.Core.List.{List, [], _∷_}
 use native.Mathlib.Omega.{arith}
 use Prim.Native.Nat.{ℕ, _+_, _<_, _≤_}
-use lib.Dec.{eqb, ltb}
-use lib.ListN.{length}
+use lib.Dec.{eqb, leb, ltb}
 use borrow.Author.Tests.{not-true, not-false, eq-eqb, ne-eqb, lt-ltb, le-ltb, le-leb, lt-leb}
 use Rattle.directory.specs.declared.Entry.{Entry}
 use Rattle.directory.specs.declared.Totals.{Totals}
 use Rattle.directory.specs.declared.Found.{Found}
 use Rattle.directory.specs.declared.Found.the-variants.{At, Nothing}
-use Rattle.directory.specs.Directory.{entries, totalsOf, isFile, hasFile, findIn, findOf, lengthOf}
+use Rattle.directory.specs.Directory.{maxNumber, maxRecords, lengthOf, entries, bytesIn, totalsOf, isFile, hasFile, findIn, findOf}
 use Rattle.files.specs.Files.{unusedOf, entry, appended, isThere, deleted, purged, storedByte}
 use Rattle.state.specs.declared.Phase.the-variants.{Idle, Upload}
 use Rattle.state.specs.declared.Port.{Port}
 use Rattle.state.specs.declared.State.{State}
+use Rattle.state.specs.Editions.{newer, patience}
 use Rattle.state.specs.State.{startText}
 use Rattle.rules.specs.World.{world, putText, done, quietly, refused}
 use Rattle.rules.specs.Pictures.{inPhase}
 use Rattle.rules.specs.Text.{withFont}
-use Rattle.rules.specs.Files.{inUse, lacksSpace, beginUpload, uploadData, deleteFile, purge}
+use Rattle.rules.specs.Files.{inUse, kindOf, lacksSpace, beginUpload, uploadData, uploadWaits, deleteFile, purge}
+use Rattle.rules.specs.Sound.{highest}
+use Rattle.rules.proofs.GoodStore.{room}
 use Rattle.outcome.specs.declared.Outcome.{Outcome}
 use Rattle.outcome.specs.declared.Reply.{Reply}
 use Rattle.outcome.specs.Outcome.{refusedPort, sendingOf, oneByte}
@@ -61,46 +63,87 @@ other-number k n e h = record { differ = rw (eq-eqb k 1 e, ne-eqb n 1 h) }
 pub used-if-stored : (s : List ℕ) (k n : ℕ) (t : Bool) → Other k n → t ≡ hasFile (entries s) k n → t ≡ inUse s k n
 used-if-stored s k n t o e = rw (o .differ) e
 
-pub no-size : (s : List ℕ) (z : ℕ) → z ≡ 0 → true ≡ lacksSpace s z
-no-size s z e = rw e
+pub kind-older : (e k : ℕ) → (e ≡ newer → ⊥) → k ≡ kindOf e k
+kind-older e k h = rw (ne-eqb e newer h)
 
-pub no-place : (s : List ℕ) (z : ℕ) (t : Totals) → (z ≡ 0 → ⊥) → t ≡ totalsOf (entries s) → 63 ≤ t .count → true ≡ lacksSpace s z
-no-place s z t h e l =
-    let c : t .count ≡ length (entries s) = ap (λ (u : Totals). u .count) e in
-    rw (ne-eqb z 0 h, le-leb 63 (length (entries s)) (omega (arith, c)))
+pub kind-font : (e k : ℕ) → e ≡ newer → k ≡ 1 → 3 ≡ kindOf e k
+kind-font e k h f = rw (eq-eqb e newer h, eq-eqb k 1 f)
 
-pub no-bytes : (s : List ℕ) (z u : ℕ) (t : Totals) → (z ≡ 0 → ⊥) → t ≡ totalsOf (entries s) → t .count < 63 → u ≡ unusedOf s → ltb u z ≡ lacksSpace s z
-no-bytes s z u t h e l f =
-    let c : t .count ≡ length (entries s) = ap (λ (u : Totals). u .count) e in
-    rw (ne-eqb z 0 h, lt-leb 63 (length (entries s)) (omega (arith, c)), f)
+pub kind-bitmap : (e k : ℕ) → e ≡ newer → (k ≡ 1 → ⊥) → 4 ≡ kindOf e k
+kind-bitmap e k h f = rw (eq-eqb e newer h, ne-eqb k 1 f)
 
-pub away-used : (s : List ℕ) (k n z : ℕ) (t : Bool) → t ≡ inUse s k n → t ≡ true → true ≡ (inUse s k n || lacksSpace s z)
-away-used s k n z t e h = rw (← e, h)
+pub highest-newer : (e : ℕ) → e ≡ newer → maxNumber ≡ highest e
+highest-newer e h = rw (eq-eqb e newer h)
 
-pub away-room : (s : List ℕ) (k n z : ℕ) (t u : Bool) → t ≡ inUse s k n → t ≡ false → u ≡ lacksSpace s z → u ≡ (inUse s k n || lacksSpace s z)
-away-room s k n z t u e h f = f ∙ rw (← e, h)
+pub highest-older : (e : ℕ) → (e ≡ newer → ⊥) → 255 ≡ highest e
+highest-older e h = rw (ne-eqb e newer h)
+
+module _ (s : List ℕ) (k z : ℕ) where
+  pub no-size : z ≡ 0 → true ≡ lacksSpace s k z
+  unfolding lacksSpace
+  no-size e = rw e
+
+  module _ (t : Totals) (n : ℕ) (h : z ≡ 0 → ⊥) (e : t ≡ totalsOf (entries s)) (m : n ≡ lengthOf k) where
+    records : t .end + n ≡ bytesIn (entries s) + lengthOf k
+    records = rw (ap (λ (u : Totals). u .end) e, m)
+
+    pub no-place : 255 < t .end + n → true ≡ lacksSpace s k z
+    unfolding lacksSpace
+    no-place l = rw (ne-eqb z 0 h, lt-ltb maxRecords (bytesIn (entries s) + lengthOf k) (omega (arith, records)))
+
+    module _ (l : t .end + n ≤ 255) (u : ℕ) (f : u ≡ unusedOf s) where
+      pub no-bytes : u < z → true ≡ lacksSpace s k z
+      unfolding lacksSpace
+      no-bytes o = rw (ne-eqb z 0 h, le-ltb maxRecords (bytesIn (entries s) + lengthOf k) (omega (arith, records)), ← f, lt-ltb u z o)
+
+      pub some-bytes : z ≤ u → leb 65536 z ≡ lacksSpace s k z
+      unfolding lacksSpace
+      some-bytes o = rw (ne-eqb z 0 h, le-ltb maxRecords (bytesIn (entries s) + lengthOf k) (omega (arith, records)), ← f, le-ltb u z o)
+
+module _ (s : List ℕ) (e k n z h : ℕ) (top : h ≡ highest e) where
+  pub away-high : h < n → true ≡ (ltb (highest e) n || inUse s k n || lacksSpace s (kindOf e k) z)
+  away-high l = rw (← top, lt-ltb h n l)
+
+  module _ (l : n ≤ h) (t : Bool) (u : t ≡ inUse s k n) where
+    pub away-used : t ≡ true → true ≡ (ltb (highest e) n || inUse s k n || lacksSpace s (kindOf e k) z)
+    away-used o = rw (← top, le-ltb h n l, ← u, o)
+
+    pub away-room : (c : ℕ) (v : Bool) → t ≡ false → c ≡ kindOf e k → v ≡ lacksSpace s c z → v ≡ (ltb (highest e) n || inUse s k n || lacksSpace s (kindOf e k) z)
+    away-room c v o q f = f ∙ rw (← top, le-ltb h n l, ← u, o, q)
 
 pub telling-is : (pt n : Port) (k : ℕ) (q : Reply) (r : Outcome) → n ≡ refusedPort pt k → q ≡ oneByte 8 → r ≡ sendingOf n q → r ≡ tellingOf pt k
 telling-is pt n k q r e f h = h ∙ rw (e, f)
 
 -- ---- uploads
 
+-- a size that is not refused fits two bytes
+pub size-fits : (s : List ℕ) (k z : ℕ) (u : Bool) → u ≡ lacksSpace s k z → u ≡ false → z < 65536
+size-fits s k z u f o = room s k z (sym f ∙ o) .small
+
 module _ (g s : List ℕ) (st : State) (k n z : ℕ) where
-  pub upload-25 : (t : Bool) → t ≡ inUse s k n → t ≡ true → beginUpload (world g s st) k n z ≡ refused 25 (8 ∷ [])
+  pub upload-19 : maxNumber < n → beginUpload (world g s st) k n z ≡ refused 19 (8 ∷ [])
   unfolding beginUpload
-  upload-25 t e h = rw (← e, h)
+  upload-19 l = rw (lt-ltb maxNumber n l)
 
-  pub upload-24 : (t u : Bool) → t ≡ inUse s k n → t ≡ false → u ≡ lacksSpace s z → u ≡ true → beginUpload (world g s st) k n z ≡ refused 24 (8 ∷ [])
-  unfolding beginUpload
-  upload-24 t u e h f o = rw (← e, h, ← f, o)
+  module _ (l : n ≤ maxNumber) (t : Bool) (e : t ≡ inUse s k n) where
+    pub upload-25 : t ≡ true → beginUpload (world g s st) k n z ≡ refused 25 (8 ∷ [])
+    unfolding beginUpload
+    upload-25 h = rw (le-ltb maxNumber n l, ← e, h)
 
-  pub upload-done : (t u : Bool) → t ≡ inUse s k n → t ≡ false → u ≡ lacksSpace s z → u ≡ false
-      → beginUpload (world g s st) k n z ≡ done (inPhase (world g s st) (Upload k n z 0 false 0)) (1 ∷ [])
-  unfolding beginUpload
-  upload-done t u e h f o = rw (← e, h, ← f, o)
+    module _ (h : t ≡ false) (c : ℕ) (u : Bool) (d : c ≡ kindOf (st .config .edition) k) (f : u ≡ lacksSpace s c z) where
+      lacks : lacksSpace s (kindOf (st .config .edition) k) z ≡ u
+      lacks = ap (λ (x : ℕ). lacksSpace s x z) (sym d) ∙ sym f
+
+      pub upload-24 : u ≡ true → beginUpload (world g s st) k n z ≡ refused 24 (8 ∷ [])
+      unfolding beginUpload
+      upload-24 o = rw (le-ltb maxNumber n l, ← e, h, lacks, o)
+
+      pub upload-done : u ≡ false → beginUpload (world g s st) k n z ≡ done (inPhase (world g s st) (Upload k n z 0 false 0 0)) (1 ∷ [])
+      unfolding beginUpload
+      upload-done o = rw (le-ltb maxNumber n l, ← e, h, lacks, o)
 
   module _ (i c b : ℕ) where
-    pub data-echoed : (v : Bool) → not v ≡ true → uploadData (world g s st) k n z i v c b ≡ done (inPhase (world g s st) (Upload k n z i true b)) (b ∷ [])
+    pub data-echoed : (v : Bool) → not v ≡ true → uploadData (world g s st) k n z i v c b ≡ done (inPhase (world g s st) (Upload k n z i true b 0)) (b ∷ [])
     unfolding uploadData
     data-echoed v e = rw (not-true v e)
 
@@ -109,14 +152,24 @@ module _ (g s : List ℕ) (st : State) (k n z : ℕ) where
     data-26 v e h = rw (not-false v e, ne-eqb b 1 h)
 
     pub data-more : (v : Bool) (s' : List ℕ) → not v ≡ false → b ≡ 1 → i + 1 < z → s' ≡ storedByte s i c
-        → uploadData (world g s st) k n z i v c b ≡ quietly (inPhase (world g s' st) (Upload k n z (i + 1) false 0))
+        → uploadData (world g s st) k n z i v c b ≡ quietly (inPhase (world g s' st) (Upload k n z (i + 1) false 0 0))
     unfolding uploadData
     data-more v s' e h l f = rw (not-false v e, eq-eqb b 1 h, lt-ltb (i + 1) z l, f)
 
-    pub data-last : (v : Bool) (s' s'' : List ℕ) → not v ≡ false → b ≡ 1 → z ≤ i + 1 → s' ≡ storedByte s i c → s'' ≡ appended s' (entry k n z)
+    pub data-last : (v : Bool) (q : ℕ) (s' s'' : List ℕ) → not v ≡ false → b ≡ 1 → z ≤ i + 1 → s' ≡ storedByte s i c → q ≡ kindOf (st .config .edition) k → s'' ≡ appended s' (entry q n z)
         → uploadData (world g s st) k n z i v c b ≡ quietly (inPhase (world g s'' st) Idle)
     unfolding uploadData
-    data-last v s' s'' e h l f d = rw (not-false v e, eq-eqb b 1 h, le-ltb (i + 1) z l, d, f)
+    data-last v q s' s'' e h l f o d = rw (not-false v e, eq-eqb b 1 h, le-ltb (i + 1) z l, d, f, o)
+
+    -- b milliseconds after c
+    module _ (v : Bool) (d : ℕ) where
+      pub waits-26 : patience ≤ c + b → uploadWaits (world g s st) k n z i v d c b ≡ refused 26 (254 ∷ 212 ∷ [])
+      unfolding uploadWaits
+      waits-26 l = rw (le-leb patience (c + b) l)
+
+      pub waits-on : c + b < patience → uploadWaits (world g s st) k n z i v d c b ≡ quietly (inPhase (world g s st) (Upload k n z i v d (c + b)))
+      unfolding uploadWaits
+      waits-on l = rw (lt-leb patience (c + b) l)
 
 -- ---- delete and purge
 
@@ -125,22 +178,26 @@ module _ (g s : List ℕ) (st : State) (t n : ℕ) where
   unfolding deleteFile
   delete-20 l = rw (le-leb 2 t l)
 
-  pub delete-22 : (b : Bool) → t < 2 → b ≡ hasFile (entries s) (t + 1) n → not b ≡ true → deleteFile (world g s st) t n ≡ refused 22 []
+  pub delete-19 : t < 2 → maxNumber < n → deleteFile (world g s st) t n ≡ refused 19 []
   unfolding deleteFile
-  delete-22 b l e h = rw (lt-leb 2 t l, ← e, h)
+  delete-19 l m = rw (lt-leb 2 t l, lt-ltb maxNumber n m)
 
-  module _ (s' : List ℕ) (b : Bool) (l : t < 2) (e : b ≡ hasFile (entries s) (t + 1) n) (h : not b ≡ false) (gone : s' ≡ deleted s (t + 1) n) where
+  pub delete-22 : (b : Bool) → t < 2 → n ≤ maxNumber → b ≡ hasFile (entries s) (t + 1) n → not b ≡ true → deleteFile (world g s st) t n ≡ refused 22 []
+  unfolding deleteFile
+  delete-22 b l m e h = rw (lt-leb 2 t l, le-ltb maxNumber n m, ← e, h)
+
+  module _ (s' : List ℕ) (b : Bool) (l : t < 2) (m : n ≤ maxNumber) (e : b ≡ hasFile (entries s) (t + 1) n) (h : not b ≡ false) (gone : s' ≡ deleted s (t + 1) n) where
     pub delete-chosen : t + 1 ≡ 1 → n ≡ st .port .text .font → deleteFile (world g s st) t n ≡ quietly (putText (world g s' st) (withFont (st .port .text) 1))
     unfolding deleteFile
-    delete-chosen k f = rw (lt-leb 2 t l, ← e, h, ← gone, eq-eqb (t + 1) 1 k, eq-eqb n (st .port .text .font) f)
+    delete-chosen k f = rw (lt-leb 2 t l, le-ltb maxNumber n m, ← e, h, ← gone, eq-eqb (t + 1) 1 k, eq-eqb n (st .port .text .font) f)
 
     pub delete-bitmap : (t + 1 ≡ 1 → ⊥) → deleteFile (world g s st) t n ≡ quietly (world g s' st)
     unfolding deleteFile
-    delete-bitmap k = rw (lt-leb 2 t l, ← e, h, ← gone, ne-eqb (t + 1) 1 k)
+    delete-bitmap k = rw (lt-leb 2 t l, le-ltb maxNumber n m, ← e, h, ← gone, ne-eqb (t + 1) 1 k)
 
     pub delete-other : (n ≡ st .port .text .font → ⊥) → t + 1 ≡ 1 → deleteFile (world g s st) t n ≡ quietly (world g s' st)
     unfolding deleteFile
-    delete-other f k = rw (lt-leb 2 t l, ← e, h, ← gone, eq-eqb (t + 1) 1 k, ne-eqb n (st .port .text .font) f)
+    delete-other f k = rw (lt-leb 2 t l, le-ltb maxNumber n m, ← e, h, ← gone, eq-eqb (t + 1) 1 k, ne-eqb n (st .port .text .font) f)
 
 module _ (g s : List ℕ) (st : State) (a b : ℕ) where
   pub purge-first : (a ≡ 89 → ⊥) → purge (world g s st) a b ≡ refused 20 []
@@ -151,6 +208,6 @@ module _ (g s : List ℕ) (st : State) (a b : ℕ) where
   unfolding purge
   purge-second e h = rw (eq-eqb a 89 e, ne-eqb b 33 h)
 
-  pub purge-done : (s' : List ℕ) → a ≡ 89 → b ≡ 33 → s' ≡ purged s → purge (world g s st) a b ≡ quietly (putText (world g s' st) (startText (st .height)))
+  pub purge-done : (s' : List ℕ) → a ≡ 89 → b ≡ 33 → s' ≡ purged s → purge (world g s st) a b ≡ quietly (putText (world g s' st) (startText (st .config .height)))
   unfolding purge
   purge-done s' e f d = rw (eq-eqb a 89 e, eq-eqb b 33 f, d)

@@ -2,8 +2,12 @@
 use directory::BUILT_IN_FONT;
 use directory::FONT;
 use directory::Found;
-use directory::MAX_FILES;
+use directory::MAX_NUMBER;
+use directory::MAX_RECORDS;
+use directory::NEWER_BITMAP;
+use directory::NEWER_FONT;
 use directory::find;
+use directory::record_length;
 use directory::tally;
 use files::append;
 use files::delete;
@@ -17,19 +21,25 @@ use outcome::put_text;
 use outcome::refuse;
 use outcome::refused;
 use outcome::sending;
+use outcome::two_bytes;
 use refusals::NO_SPACE;
 use refusals::NO_SUCH_FILE;
 use refusals::NUMBER_IN_USE;
+use refusals::NUMBER_OUT_OF_RANGE;
 use refusals::UNKNOWN_TYPE;
 use refusals::UPLOAD_ABORTED;
+use state::NEWER;
+use state::PATIENCE;
 use state::Phase;
 use state::Port;
 use state::start_text;
 ghost use mathlib.Core.Path.{_≡_};
 ghost use mathlib.Core.Bool.{_||_};
+ghost use lib.Dec.{ltb};
 ghost use Rattle.directory.specs.Directory.{entries, hasFile};
-ghost use Rattle.rules.specs.Files.{inUse, lacksSpace, beginUpload, uploadData, deleteFile, purge};
-ghost use Rattle.outcome.specs.Contract.{unlent, lent, untold, told, Obeys};
+ghost use Rattle.rules.specs.Files.{inUse, kindOf, lacksSpace, beginUpload, uploadData, uploadWaits, deleteFile, purge};
+ghost use Rattle.rules.specs.Sound.{highest};
+ghost use Rattle.outcome.specs.Contract.{unlent, lent, untold, told, told-edition, Obeys};
 ghost use Rattle.storage.specs.Storage.{tellingOf};
 
 // The replies of the upload's handshake, and the host's confirmation.
@@ -39,7 +49,18 @@ const TURNED_AWAY: u8 = 8;
 
 const CONFIRM: u8 = 1;
 
-// Types of a delete are numbers below this; the kind is one more.
+// The reply to an upload that is dropped: the prefix, and the message that time is up.
+const PREFIX: u8 = 254;
+
+const TIMED_OUT: u8 = 212;
+
+// No store has room for so many bytes.
+const TOO_LARGE: u32 = 65536;
+
+// The highest number that the older edition can name.
+const OLDER_HIGHEST: u16 = 255;
+
+// Types of a delete are numbers below this; the sort is one more.
 const TYPES: u8 = 2;
 
 // The bytes behind a purge's code.
@@ -47,11 +68,11 @@ const PURGE_FIRST: u8 = 89;
 
 const PURGE_SECOND: u8 = 33;
 
-// Whether the directory has a file of this kind and number.
-pub fn is_stored(store: &[u8], kind: u8, number: u8) -> bool
-    ensures { λ r. ⌜ r ≡ hasFile (entries (now (store .entry))) kind number ⌝ }
+// Whether the directory has a file of this sort and number.
+pub fn is_stored(store: &[u8], sort: u8, number: u16) -> bool
+    ensures { λ r. ⌜ r ≡ hasFile (entries (now (store .entry))) sort number ⌝ }
 {
-    let found = find(store, kind, number);
+    let found = find(store, sort, number);
     let Found::At {
         record: _,
         start: _,
@@ -64,39 +85,70 @@ pub fn is_stored(store: &[u8], kind: u8, number: u8) -> bool
 }
 
 // Font 1 always is.
-fn is_in_use(store: &[u8], kind: u8, number: u8) -> bool
-    ensures { λ r. ⌜ r ≡ inUse (now (store .entry)) kind number ⌝ }
+fn is_in_use(store: &[u8], sort: u8, number: u16) -> bool
+    ensures { λ r. ⌜ r ≡ inUse (now (store .entry)) sort number ⌝ }
 {
-    if kind != FONT {
-        return is_stored(store, kind, number);
+    if sort != FONT {
+        return is_stored(store, sort, number);
     }
     if number != BUILT_IN_FONT {
-        return is_stored(store, kind, number);
+        return is_stored(store, sort, number);
     }
     true
 }
 
-fn lacks_space(store: &[u8], size: u16) -> bool
-    ensures { λ r. ⌜ r ≡ lacksSpace (now (store .entry)) size ⌝ }
+// The kind of record that an edition writes for a sort.
+fn kind_of(edition: u8, sort: u8) -> u8
+    ensures { λ r. ⌜ r ≡ kindOf edition sort ⌝ }
+{
+    if edition != NEWER {
+        return sort;
+    }
+    if sort == FONT {
+        NEWER_FONT
+    } else {
+        NEWER_BITMAP
+    }
+}
+
+fn lacks_space(store: &[u8], kind: u8, size: u32) -> bool
+    ensures { λ r. ⌜ r ≡ lacksSpace (now (store .entry)) kind size ⌝ }
 {
     if size == 0 {
         return true;
     }
     let t = tally(store);
-    if MAX_FILES <= t.count {
+    if MAX_RECORDS < t.end + record_length(kind) {
         return true;
     }
-    unused(store) < size as usize
+    if unused(store) < size as usize {
+        return true;
+    }
+    TOO_LARGE <= size
 }
 
-// Whether an upload is refused.
-pub fn is_turned_away(store: &[u8], kind: u8, number: u8, size: u16) -> bool
-    ensures { λ r. ⌜ r ≡ (inUse (now (store .entry)) kind number || lacksSpace (now (store .entry)) size) ⌝ }
+// The highest number of an upload.
+fn highest(edition: u8) -> u16
+    ensures { λ r. ⌜ r ≡ highest edition ⌝ }
 {
-    if is_in_use(store, kind, number) {
+    if edition == NEWER {
+        MAX_NUMBER
+    } else {
+        OLDER_HIGHEST
+    }
+}
+
+// Whether an upload under way would now be refused.
+pub fn is_turned_away(store: &[u8], edition: u8, sort: u8, number: u16, size: u16) -> bool
+    ensures { λ r. ⌜ r ≡ (ltb (highest edition) number || inUse (now (store .entry)) sort number || lacksSpace (now (store .entry)) (kindOf edition sort) size) ⌝ }
+{
+    if highest(edition) < number {
         return true;
     }
-    lacks_space(store, size)
+    if is_in_use(store, sort, number) {
+        return true;
+    }
+    lacks_space(store, kind_of(edition, sort), size as u32)
 }
 
 // A refusal that is answered.
@@ -106,24 +158,35 @@ fn telling(port: Port, number: u8) -> Outcome
     sending(refuse(port, number), one_byte(TURNED_AWAY))
 }
 
-pub fn begin_upload(store: &[u8], port: Port, kind: u8, number: u8, size: u16) -> Outcome
-    ensures { λ r. ⌜ Obeys untold (λ w. beginUpload w kind number size) port unlent (lent (now (store .entry)) (now (store .entry))) unlent r ⌝ }
+pub fn begin_upload(
+    store: &[u8],
+    port: Port,
+    edition: u8,
+    sort: u8,
+    number: u16,
+    size: u32,
+) -> Outcome
+    ensures { λ r. ⌜ Obeys (told-edition edition) (λ w. beginUpload w sort number size) port unlent (lent (now (store .entry)) (now (store .entry))) unlent r ⌝ }
 {
-    if is_in_use(store, kind, number) {
+    if number > MAX_NUMBER {
+        return telling(port, NUMBER_OUT_OF_RANGE);
+    }
+    if is_in_use(store, sort, number) {
         return telling(port, NUMBER_IN_USE);
     }
-    if lacks_space(store, size) {
+    if lacks_space(store, kind_of(edition, sort), size) {
         return telling(port, NO_SPACE);
     }
     let next = in_phase(
         port,
         Phase::Upload {
-            kind: kind,
+            sort: sort,
             number: number,
-            size: size,
+            size: size as u16,
             stored: 0,
             waiting: false,
             byte: 0,
+            waited: 0,
         },
     );
     sending(next, one_byte(WELCOME))
@@ -133,26 +196,28 @@ pub fn begin_upload(store: &[u8], port: Port, kind: u8, number: u8, size: u16) -
 pub fn upload_data(
     store: &mut [u8],
     port: Port,
-    kind: u8,
-    number: u8,
+    edition: u8,
+    sort: u8,
+    number: u16,
     size: u16,
     stored: u16,
     waiting: bool,
     held: u8,
     byte: u8,
 ) -> Outcome
-    ensures { λ r. ⌜ Obeys untold (λ w. uploadData w kind number size stored waiting held byte) port unlent (lent (now (store .entry)) (now (store .exit))) unlent r ⌝ }
+    ensures { λ r. ⌜ Obeys (told-edition edition) (λ w. uploadData w sort number size stored waiting held byte) port unlent (lent (now (store .entry)) (now (store .exit))) unlent r ⌝ }
 {
     if !waiting {
         let next = in_phase(
             port,
             Phase::Upload {
-                kind: kind,
+                sort: sort,
                 number: number,
                 size: size,
                 stored: stored,
                 waiting: true,
                 byte: byte,
+                waited: 0,
             },
         );
         return sending(next, one_byte(byte));
@@ -165,33 +230,69 @@ pub fn upload_data(
         let next = in_phase(
             port,
             Phase::Upload {
-                kind: kind,
+                sort: sort,
                 number: number,
                 size: size,
                 stored: stored + 1,
                 waiting: false,
                 byte: 0,
+                waited: 0,
             },
         );
         return done(next);
     }
-    append(store, kind, number, size);
+    append(store, kind_of(edition, sort), number, size as u32);
     done(in_phase(port, Phase::Idle))
 }
 
+// Milliseconds pass: they add up, and an upload that has waited too long is dropped.
+pub fn upload_waits(
+    port: Port,
+    sort: u8,
+    number: u16,
+    size: u16,
+    stored: u16,
+    waiting: bool,
+    held: u8,
+    waited: u16,
+    milliseconds: u32,
+) -> Outcome
+    ensures { λ r. ⌜ Obeys untold (λ w. uploadWaits w sort number size stored waiting held waited milliseconds) port unlent unlent unlent r ⌝ }
+{
+    let sum = waited as u64 + milliseconds as u64;
+    if sum >= PATIENCE as u64 {
+        return sending(refuse(port, UPLOAD_ABORTED), two_bytes(PREFIX, TIMED_OUT));
+    }
+    done(in_phase(
+        port,
+        Phase::Upload {
+            sort: sort,
+            number: number,
+            size: size,
+            stored: stored,
+            waiting: waiting,
+            byte: held,
+            waited: sum as u16,
+        },
+    ))
+}
+
 // A deleted font that was the current one leaves font 1.
-pub fn delete_file(store: &mut [u8], port: Port, of_type: u8, number: u8) -> Outcome
+pub fn delete_file(store: &mut [u8], port: Port, of_type: u8, number: u16) -> Outcome
     ensures { λ r. ⌜ Obeys untold (λ w. deleteFile w «of_type» number) port unlent (lent (now (store .entry)) (now (store .exit))) unlent r ⌝ }
 {
     if of_type >= TYPES {
         return refused(port, UNKNOWN_TYPE);
     }
-    let kind = of_type + 1;
-    if !is_stored(store, kind, number) {
+    if number > MAX_NUMBER {
+        return refused(port, NUMBER_OUT_OF_RANGE);
+    }
+    let sort = of_type + 1;
+    if !is_stored(store, sort, number) {
         return refused(port, NO_SUCH_FILE);
     }
-    delete(store, kind, number);
-    if kind != FONT {
+    delete(store, sort, number);
+    if sort != FONT {
         return done(port);
     }
     let mut text = port.text;

@@ -2,6 +2,10 @@
 use directory::BITMAP;
 use directory::FONT;
 use directory::Found;
+use directory::NEWER_BITMAP;
+use directory::NEWER_FONT;
+use directory::OLDER_BITMAP;
+use directory::OLDER_FONT;
 use directory::byte_at;
 use directory::find;
 use directory::is_valid;
@@ -68,9 +72,7 @@ fn show_valid(name: &[u8], s: &[u8]) {
 fn show_tally(name: &[u8], s: &[u8]) {
     let t = tally(s);
     say(name);
-    say(b": records ");
-    say_number(t.count);
-    say(b", end ");
+    say(b": end ");
     say_number(t.end);
     say(b", used ");
     say_number(t.used);
@@ -92,10 +94,10 @@ fn lengths() {
 
 fn ends() {
     let mut s = [0u8; STORE];
-    append(&mut s, BITMAP, 5, 10);
+    append(&mut s, OLDER_BITMAP, 5, 10);
     show_tally(b"bitmap 5 of 10 bytes", &s);
     show_valid(b"bitmap 5 of 10 bytes", &s);
-    s[8] = BITMAP;
+    s[8] = OLDER_BITMAP;
     s[9] = 6;
     s[10] = 10;
     show_tally(b"kind 0, then a record", &s);
@@ -104,7 +106,7 @@ fn ends() {
 
 fn garbage() {
     let mut s = [0u8; STORE];
-    append(&mut s, FONT, 2, 10);
+    append(&mut s, OLDER_FONT, 2, 10);
     s[255] = 1;
     show_tally(b"byte 255 is 1", &s);
     show_valid(b"byte 255 is 1", &s);
@@ -115,18 +117,22 @@ fn garbage() {
 
 fn unknown_kind() {
     let mut s = [0u8; STORE];
-    append(&mut s, BITMAP, 5, 10);
-    append(&mut s, 3, 5, 10);
-    show_tally(b"a record of kind 3", &s);
-    show_valid(b"a record of kind 3", &s);
+    append(&mut s, OLDER_BITMAP, 5, 10);
+    append(&mut s, 5, 6, 10);
+    show_valid(b"kind 5 is not appended", &s);
+    s[4] = 5;
+    s[5] = 6;
+    s[6] = 10;
+    show_tally(b"a record of kind 5", &s);
+    show_valid(b"a record of kind 5", &s);
 }
 
 // Bitmaps 1 to n, of a byte each.
-fn append_all(s: &mut [u8], n: u8) {
+fn append_all(s: &mut [u8], n: u16) {
     let mut k = 0;
     while k < n {
         k += 1;
-        append(s, BITMAP, k, 1);
+        append(s, OLDER_BITMAP, k, 1);
     }
 }
 
@@ -135,47 +141,77 @@ fn counts() {
     append_all(&mut s, 63);
     show_tally(b"63 bitmaps", &s);
     show_valid(b"63 bitmaps", &s);
-    append(&mut s, BITMAP, 64, 1);
+    append(&mut s, NEWER_BITMAP, 64, 1);
+    show_tally(b"and one of 7 bytes", &s);
+    append(&mut s, OLDER_BITMAP, 64, 1);
     show_tally(b"64 bitmaps", &s);
     show_valid(b"64 bitmaps", &s);
-    append(&mut s, BITMAP, 65, 1);
+    append(&mut s, OLDER_BITMAP, 65, 1);
     show_tally(b"a record that would end behind byte 256", &s);
     show_bytes(b"bytes 252 to 259:", &s, 252, 260);
 }
 
+fn record_bytes() {
+    let mut s = [0u8; STORE];
+    append_all(&mut s, 62);
+    append(&mut s, NEWER_BITMAP, 63, 1);
+    show_tally(b"62 bitmaps and one of 7 bytes", &s);
+    show_valid(b"62 bitmaps and one of 7 bytes", &s);
+}
+
 fn numbers() {
     let mut s = [0u8; STORE];
-    append(&mut s, BITMAP, 1, 10);
+    append(&mut s, OLDER_BITMAP, 1, 10);
     show_valid(b"bitmap 1", &s);
-    append(&mut s, FONT, 2, 10);
-    append(&mut s, BITMAP, 2, 10);
+    append(&mut s, OLDER_FONT, 2, 10);
+    append(&mut s, OLDER_BITMAP, 2, 10);
     show_valid(b"font 2 and bitmap 2", &s);
-    append(&mut s, FONT, 2, 20);
+    append(&mut s, OLDER_FONT, 2, 20);
     show_valid(b"font 2 twice", &s);
     let mut t = [0u8; STORE];
-    append(&mut t, FONT, 1, 10);
+    append(&mut t, OLDER_FONT, 1, 10);
     show_valid(b"font 1", &t);
 }
 
 fn sizes() {
     let mut s = [0u8; STORE];
-    append(&mut s, BITMAP, 5, 768);
+    append(&mut s, OLDER_BITMAP, 5, 768);
     show_valid(b"768 bytes of 768", &s);
     let mut t = [0u8; STORE];
-    append(&mut t, BITMAP, 5, 400);
-    append(&mut t, BITMAP, 6, 368);
+    append(&mut t, OLDER_BITMAP, 5, 400);
+    append(&mut t, OLDER_BITMAP, 6, 368);
     show_valid(b"400 and 368 bytes of 768", &t);
     line(b"unused: ", unused(&t));
-    append(&mut t, BITMAP, 7, 1);
+    append(&mut t, OLDER_BITMAP, 7, 1);
     show_valid(b"and one more", &t);
     line(b"unused: ", unused(&t));
     let mut u = [0u8; STORE];
-    append(&mut u, BITMAP, 5, 0);
+    append(&mut u, OLDER_BITMAP, 5, 0);
     show_valid(b"size 0", &u);
 }
 
-fn show_found(name: &[u8], s: &[u8], kind: u8, number: u8) {
-    let found = find(s, kind, number);
+fn newer_numbers() {
+    let mut s = [0u8; STORE];
+    append(&mut s, NEWER_BITMAP, 1023, 10);
+    show_valid(b"bitmap 1023", &s);
+    append(&mut s, NEWER_BITMAP, 1024, 10);
+    show_valid(b"bitmap 1024", &s);
+    let mut t = [0u8; STORE];
+    append(&mut t, NEWER_FONT, 1, 10);
+    show_valid(b"font 1 of the newer edition", &t);
+}
+
+fn newer_sizes() {
+    let mut s = [0u8; STORE];
+    append(&mut s, NEWER_BITMAP, 5, 70000);
+    show_bytes(b"bitmap 5 of 70000 bytes:", &s, 0, 8);
+    show_tally(b"bitmap 5 of 70000 bytes", &s);
+    show_valid(b"bitmap 5 of 70000 bytes", &s);
+    line(b"unused: ", unused(&s));
+}
+
+fn show_found(name: &[u8], s: &[u8], sort: u8, number: u16) {
+    let found = find(s, sort, number);
     say(name);
     match found {
         Found::Nothing => say(b": nothing\n"),
@@ -197,15 +233,31 @@ fn show_found(name: &[u8], s: &[u8], kind: u8, number: u8) {
 
 fn finds() {
     let mut s = [0u8; STORE];
-    append(&mut s, FONT, 2, 300);
-    append(&mut s, BITMAP, 5, 10);
-    append(&mut s, BITMAP, 2, 458);
+    append(&mut s, OLDER_FONT, 2, 300);
+    append(&mut s, OLDER_BITMAP, 5, 10);
+    append(&mut s, OLDER_BITMAP, 2, 458);
     show_bytes(b"directory:", &s, 0, 16);
     show_found(b"font 2", &s, FONT, 2);
     show_found(b"bitmap 5", &s, BITMAP, 5);
     show_found(b"bitmap 2", &s, BITMAP, 2);
     show_found(b"font 5", &s, FONT, 5);
     show_found(b"bitmap 0", &s, BITMAP, 0);
+}
+
+fn editions() {
+    let mut s = [0u8; STORE];
+    append(&mut s, NEWER_FONT, 1023, 300);
+    append(&mut s, OLDER_FONT, 2, 5);
+    append(&mut s, NEWER_BITMAP, 1023, 10);
+    show_bytes(b"directory:", &s, 0, 20);
+    show_tally(b"records of both editions", &s);
+    show_valid(b"records of both editions", &s);
+    show_found(b"font 1023", &s, FONT, 1023);
+    show_found(b"font 2", &s, FONT, 2);
+    show_found(b"bitmap 1023", &s, BITMAP, 1023);
+    show_found(b"bitmap 2", &s, BITMAP, 2);
+    append(&mut s, NEWER_FONT, 2, 5);
+    show_valid(b"font 2 in both editions", &s);
 }
 
 // Files.
@@ -219,14 +271,14 @@ fn show_store(s: &[u8]) {
 fn put_bitmap_1(s: &mut [u8]) {
     store_byte(s, 0, 11);
     store_byte(s, 1, 12);
-    append(s, BITMAP, 1, 2);
+    append(s, OLDER_BITMAP, 1, 2);
 }
 
 fn put_font_2(s: &mut [u8]) {
     store_byte(s, 0, 21);
     store_byte(s, 1, 22);
     store_byte(s, 2, 23);
-    append(s, FONT, 2, 3);
+    append(s, OLDER_FONT, 2, 3);
 }
 
 fn put_bitmap_3(s: &mut [u8]) {
@@ -234,11 +286,18 @@ fn put_bitmap_3(s: &mut [u8]) {
     store_byte(s, 1, 32);
     store_byte(s, 2, 33);
     store_byte(s, 3, 34);
-    append(s, BITMAP, 3, 4);
+    append(s, OLDER_BITMAP, 3, 4);
 }
 
-fn show_delete(s: &mut [u8], kind: u8, number: u8) {
-    if delete(s, kind, number) {
+fn put_font_300(s: &mut [u8]) {
+    store_byte(s, 0, 41);
+    store_byte(s, 1, 42);
+    store_byte(s, 2, 43);
+    append(s, NEWER_FONT, 300, 3);
+}
+
+fn show_delete(s: &mut [u8], sort: u8, number: u16) {
+    if delete(s, sort, number) {
         say(b"deleted\n");
     } else {
         say(b"no such file\n");
@@ -267,6 +326,18 @@ fn deletes() {
     show_bytes(b"bytes 1022 and 1023:", &s, 1022, 1024);
     say(b"purged\n");
     purge(&mut s);
+    show_store(&s);
+}
+
+fn newer_deletes() {
+    let mut s = [0u8; STORE];
+    put_bitmap_1(&mut s);
+    put_font_300(&mut s);
+    put_bitmap_3(&mut s);
+    say(b"a file of the newer edition among others\n");
+    show_store(&s);
+    say(b"font 300: ");
+    show_delete(&mut s, FONT, 300);
     show_store(&s);
 }
 
@@ -541,10 +612,15 @@ fn main() {
     garbage();
     unknown_kind();
     counts();
+    record_bytes();
     numbers();
+    newer_numbers();
     sizes();
+    newer_sizes();
     finds();
+    editions();
     deletes();
+    newer_deletes();
     good_fonts();
     glyph_places();
     bad_headers();

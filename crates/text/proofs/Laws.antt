@@ -7,11 +7,11 @@ use native.Mathlib.Nat.{mul-le-mul}
 use Prim.Native.Nat.{ℕ, _+_, _-_, _*_, _<_, _≤_}
 use lib.Dec.{eqb}
 use lib.ListN.{take, drop}
-use borrow.Author.Tests.{eq-eqb, ne-eqb, le-leb, lt-leb}
+use borrow.Author.Tests.{eq-eqb, ne-eqb, le-leb, lt-leb, le-ltb, lt-ltb}
 use Rattle.pixels.specs.Framebuffer.{width}
 use Rattle.directory.specs.declared.Found.{Found}
 use Rattle.directory.specs.declared.Found.the-variants.{At, Nothing}
-use Rattle.directory.specs.Directory.{findOf}
+use Rattle.directory.specs.Directory.{maxNumber, findOf}
 use Rattle.fonts.specs.declared.Check.{Check}
 use Rattle.fonts.specs.declared.Check.the-variants.{Good, Malformed}
 use Rattle.fonts.specs.Checks.{checkOf}
@@ -86,13 +86,18 @@ module _ (h : ℕ) (s : List ℕ) (n : ℕ) where
 -- ---- choosing it
 
 module _ (g s : List ℕ) (st : State) (n : ℕ) where
-  pub choose-shut : (r : ℕ) → openFont (st .height) s n ≡ shut r → chooseFont (world g s st) n ≡ refused r []
-  unfolding chooseFont fontChosen
-  choose-shut r e = rw e
+  pub choose-19 : maxNumber < n → chooseFont (world g s st) n ≡ refused 19 []
+  unfolding chooseFont
+  choose-19 m = rw (lt-ltb maxNumber n m)
 
-  pub choose-opened : (l : List ℕ) → openFont (st .height) s n ≡ opened l → chooseFont (world g s st) n ≡ quietly (putText (world g s st) (withFont (st .port .text) n))
+  pub choose-shut : (r : ℕ) → n ≤ maxNumber → openFont (st .config .height) s n ≡ shut r → chooseFont (world g s st) n ≡ refused r []
   unfolding chooseFont fontChosen
-  choose-opened l e = rw e
+  choose-shut r m e = rw (le-ltb maxNumber n m, e)
+
+  pub choose-opened : (l : List ℕ) → n ≤ maxNumber → openFont (st .config .height) s n ≡ opened l
+      → chooseFont (world g s st) n ≡ quietly (putText (world g s st) (withFont (st .port .text) n))
+  unfolding chooseFont fontChosen
+  choose-opened l m e = rw (le-ltb maxNumber n m, e)
 
 -- ---- the text point by column and row
 
@@ -118,20 +123,20 @@ module _ (g s : List ℕ) (st : State) (c r v k : ℕ) where
     unfolding placeBy
     place-off-right b = rw (ne-eqb c 0 column, ne-eqb r 0 row, ← at-x, le-leb width x b)
 
-    pub place-off-below : x < width → st .height ≤ y → placeBy (world g s st) c r v k ≡ refused 17 []
+    pub place-off-below : x < width → st .config .height ≤ y → placeBy (world g s st) c r v k ≡ refused 17 []
     unfolding placeBy
-    place-off-below b d = rw (ne-eqb c 0 column, ne-eqb r 0 row, ← at-x, lt-leb width x b, ← at-y, le-leb (st .height) y d)
+    place-off-below b d = rw (ne-eqb c 0 column, ne-eqb r 0 row, ← at-x, lt-leb width x b, ← at-y, le-leb (st .config .height) y d)
 
-    pub place-done : x < width → y < st .height → placeBy (world g s st) c r v k ≡ quietly (putText (world g s st) (atPoint (st .port .text) x y))
+    pub place-done : x < width → y < st .config .height → placeBy (world g s st) c r v k ≡ quietly (putText (world g s st) (atPoint (st .port .text) x y))
     unfolding placeBy
-    place-done b d = rw (ne-eqb c 0 column, ne-eqb r 0 row, ← at-x, lt-leb width x b, ← at-y, lt-leb (st .height) y d)
+    place-done b d = rw (ne-eqb c 0 column, ne-eqb r 0 row, ← at-x, lt-leb width x b, ← at-y, lt-leb (st .config .height) y d)
 
 module _ (g s : List ℕ) (st : State) (c r : ℕ) where
-  pub place-shut : (k : ℕ) → openFont (st .height) s (st .port .text .font) ≡ shut k → setPlace (world g s st) c r ≡ refused k []
+  pub place-shut : (k : ℕ) → openFont (st .config .height) s (st .port .text .font) ≡ shut k → setPlace (world g s st) c r ≡ refused k []
   unfolding setPlace placeIn
   place-shut k e = rw e
 
-  opened-place : (l : List ℕ) → openFont (st .height) s (st .port .text .font) ≡ opened l → setPlace (world g s st) c r ≡ placeIn (world g s st) c r (opened l)
+  opened-place : (l : List ℕ) → openFont (st .config .height) s (st .port .text .font) ≡ opened l → setPlace (world g s st) c r ≡ placeIn (world g s st) c r (opened l)
   unfolding setPlace
   opened-place l e = rw e
 
@@ -139,6 +144,6 @@ module _ (g s : List ℕ) (st : State) (c r : ℕ) where
   unfolding placeIn placeBy
   by-size l = refl
 
-  pub place-opened : (l : List ℕ) (v k : ℕ) → openFont (st .height) s (st .port .text .font) ≡ opened l → v ≡ nominalWidth l → k ≡ heightOf l
+  pub place-opened : (l : List ℕ) (v k : ℕ) → openFont (st .config .height) s (st .port .text .font) ≡ opened l → v ≡ nominalWidth l → k ≡ heightOf l
       → setPlace (world g s st) c r ≡ placeBy (world g s st) c r v k
   place-opened l v k e d f = opened-place l e ∙ by-size l ∙ rw (d, f)

@@ -3,6 +3,7 @@ use canvas::WIDTH;
 use directory::BUILT_IN_FONT;
 use directory::FONT;
 use directory::Found;
+use directory::MAX_NUMBER;
 use directory::find;
 use directory::part;
 use fonts::Check;
@@ -14,6 +15,7 @@ use outcome::put_text;
 use outcome::refused;
 use refusals::MALFORMED_FILE;
 use refusals::NO_SUCH_FILE;
+use refusals::NUMBER_OUT_OF_RANGE;
 use refusals::OUT_OF_BOUNDS;
 use state::Port;
 ghost use mathlib.Core.Path.{_≡_};
@@ -106,7 +108,7 @@ pub fn set_metrics(
 }
 
 // Where the font of a number lies, or the number of its refusal. One in the store is checked whole.
-pub fn find_font(store: &[u8], height: u8, number: u8) -> Source
+pub fn find_font(store: &[u8], height: u8, number: u16) -> Source
     ensures { λ r. ⌜ r ≡ sourceOf height (now (store .entry)) number ⌝ }
 {
     if number == BUILT_IN_FONT {
@@ -136,9 +138,12 @@ pub fn find_font(store: &[u8], height: u8, number: u8) -> Source
 }
 
 // The current font.
-pub fn choose_font(store: &[u8], port: Port, height: u8, number: u8) -> Outcome
+pub fn choose_font(store: &[u8], port: Port, height: u8, number: u16) -> Outcome
     ensures { λ r. ⌜ Obeys (told height) (λ w. chooseFont w number) port unlent (lent (now (store .entry)) (now (store .entry))) unlent r ⌝ }
 {
+    if number > MAX_NUMBER {
+        return refused(port, NUMBER_OUT_OF_RANGE);
+    }
     let mut text = port.text;
     text.font = number;
     let source = find_font(store, height, number);

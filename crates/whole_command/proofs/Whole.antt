@@ -26,38 +26,38 @@ use Rattle.whole_command.specs.Whole.{isIdle, commandIn, fixedArguments,
 
 -- ---- whether one stands there
 
-module _ (l : List ℕ) (p : Phase) where
+module _ (d : ℕ) (l : List ℕ) (p : Phase) where
   -- no whole command: whatever the phase
-  none : isWhole l ≡ false → 0 ≡ wholeIn p l
+  none : isWhole d l ≡ false → 0 ≡ wholeIn d p l
   unfolding wholeIn
   none e = rw (e, and-false (isIdle p))
 
-  pub whole-busy : (i : Bool) → i ≡ isIdle p → not i ≡ true → 0 ≡ wholeIn p l
+  pub whole-busy : (i : Bool) → i ≡ isIdle p → not i ≡ true → 0 ≡ wholeIn d p l
   unfolding wholeIn
   whole-busy i e n = rw (← e, not-true i n)
 
-  pub whole-short : length l < 2 → 0 ≡ wholeIn p l
+  pub whole-short : length l < 2 → 0 ≡ wholeIn d p l
   unfolding isWhole
-  whole-short h = none (rw (lt-leb (lengthIn l) (length l) (omega arith)) (and-false (eqb (getD l 0 0) 254 && not (eqb (getD l 1 0) 98))))
+  whole-short h = none (rw (lt-leb (lengthIn d l) (length l) (omega arith)) (and-false (eqb (getD l 0 0) 254 && not (eqb (getD l 1 0) 98))))
 
-  pub whole-other : (getD l 0 0 ≡ 254 → ⊥) → 0 ≡ wholeIn p l
+  pub whole-other : (getD l 0 0 ≡ 254 → ⊥) → 0 ≡ wholeIn d p l
   unfolding isWhole
   whole-other n = none (rw (ne-eqb (getD l 0 0) 254 n))
 
   module _ (prefix : getD l 0 0 ≡ 254) where
-    pub whole-bitmap : getD l 1 0 ≡ 98 → 0 ≡ wholeIn p l
+    pub whole-bitmap : getD l 1 0 ≡ 98 → 0 ≡ wholeIn d p l
     unfolding isWhole
     whole-bitmap e = none (rw (eq-eqb (getD l 0 0) 254 prefix, eq-eqb (getD l 1 0) 98 e))
 
-    module _ (other : getD l 1 0 ≡ 98 → ⊥) (c : Command) (n : ℕ) (named : c ≡ commandIn l) (counted : n ≡ argumentsOf c) where
-      ask : isWhole l ≡ leb (2 + n) (length l)
+    module _ (other : getD l 1 0 ≡ 98 → ⊥) (c : Command) (n : ℕ) (named : c ≡ commandIn l) (counted : n ≡ argumentsOf d c) where
+      ask : isWhole d l ≡ leb (2 + n) (length l)
       unfolding isWhole
       ask = rw (eq-eqb (getD l 0 0) 254 prefix, ne-eqb (getD l 1 0) 98 other, counted, named)
 
-      pub whole-lacks : length l < 2 + n → 0 ≡ wholeIn p l
+      pub whole-lacks : length l < 2 + n → 0 ≡ wholeIn d p l
       whole-lacks h = none (ask ∙ lt-leb (2 + n) (length l) h)
 
-      pub whole-is : (i : Bool) → i ≡ isIdle p → not i ≡ false → 2 + n ≤ length l → 2 + n ≡ wholeIn p l
+      pub whole-is : (i : Bool) → i ≡ isIdle p → not i ≡ false → 2 + n ≤ length l → 2 + n ≡ wholeIn d p l
       unfolding wholeIn
       whole-is i e d h = rw (← e, not-false i d, ask, le-leb (2 + n) (length l) h, counted, named)
 
@@ -67,9 +67,9 @@ there true false n h = absurd (omega (arith, h))
 there true true n h = (refl, refl, refl)
 
 -- where one stands, all of it is there
-pub whole-there : (p : Phase) (l : List ℕ) → 0 < wholeIn p l → (isIdle p ≡ true) × (isWhole l ≡ true) × (wholeIn p l ≡ lengthIn l)
+pub whole-there : (d : ℕ) (p : Phase) (l : List ℕ) → 0 < wholeIn d p l → (isIdle p ≡ true) × (isWhole d l ≡ true) × (wholeIn d p l ≡ lengthIn d l)
 unfolding wholeIn
-whole-there p l h = there (isIdle p) (isWhole l) (lengthIn l) h
+whole-there d p l h = there (isIdle p) (isWhole d l) (lengthIn d l) h
 
 -- ---- its arguments
 
@@ -106,21 +106,21 @@ take-least n l =
 -- ---- obeyed
 
 -- without a code there is no command
-pub short-unknown : (l : List ℕ) → length l < 2 → (w : World) → obey (commandIn l) (fixedArguments l) w ≡ refused unknownCommand []
+pub short-unknown : (d : ℕ) (l : List ℕ) → length l < 2 → (w : World) → obey (commandIn l) (fixedArguments d l) w ≡ refused unknownCommand []
 unfolding obey commandOf
-short-unknown [] h w = refl
-short-unknown (b ∷ []) h w = refl
-short-unknown (b ∷ c ∷ l) h w = absurd (omega (arith, h))
+short-unknown d [] h w = refl
+short-unknown d (b ∷ []) h w = refl
+short-unknown d (b ∷ c ∷ l) h w = absurd (omega (arith, h))
 
-module _ (l : List ℕ) (c : Command) (n m : ℕ) (named : c ≡ commandIn l) (counted : n ≡ argumentsOf c) (least : m ≡ min n (length l - 2)) where
+module _ (d : ℕ) (l : List ℕ) (c : Command) (n m : ℕ) (named : c ≡ commandIn l) (counted : n ≡ argumentsOf d c) (least : m ≡ min n (length l - 2)) where
   pub room-there : 2 ≤ length l → (2 + m ≤ length l) × (m ≤ 6)
-  room-there h = (omega (arith, least), omega (arith, least, counted, six-most c))
+  room-there h = (omega (arith, least), omega (arith, least, counted, six-most d c))
 
   pub whole-obeyed : {t : Told} {pt : Port} {G S P : Loan} {r : Outcome} (a : List ℕ) → a ≡ sets noArgs 0 (take m (drop 2 l)) → Obeys t (obey c a) pt G S P r
-      → Obeys t (obey (commandIn l) (fixedArguments l)) pt G S P r
+      → Obeys t (obey (commandIn l) (fixedArguments d l)) pt G S P r
   whole-obeyed {t} {pt} {G} {S} {P} {r} a e o =
       let k : List ℕ = drop 2 l in
-      let d : a ≡ fixedArguments l =
+      let f : a ≡ fixedArguments d l =
       e ∙ ap (λ (j : ℕ). sets noArgs 0 (take j k)) (least ∙ ap (min n) (sym (length-drop 2 l))) ∙ ap (sets noArgs 0) (take-least n k)
-      ∙ ap (λ (j : ℕ). sets noArgs 0 (take j k)) (counted ∙ ap argumentsOf named) in
-      subst (λ (x : Command). Obeys t (obey x (fixedArguments l)) pt G S P r) named (subst (λ (x : List ℕ). Obeys t (obey c x) pt G S P r) d o)
+      ∙ ap (λ (j : ℕ). sets noArgs 0 (take j k)) (counted ∙ ap (argumentsOf d) named) in
+      subst (λ (x : Command). Obeys t (obey x (fixedArguments d l)) pt G S P r) named (subst (λ (x : List ℕ). Obeys t (obey c x) pt G S P r) f o)

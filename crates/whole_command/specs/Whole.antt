@@ -19,24 +19,24 @@ isIdle Idle = true
 isIdle Prefix = false
 isIdle (Gathering code got) = false
 isIdle (Inline x1 y1 x2 y2 came) = false
-isIdle (Upload kind number size stored waiting byte) = false
+isIdle (Upload sort number size stored waiting held waited) = false
 
 -- by the code behind the prefix
 abbrev pub commandIn : List ℕ → Command
 commandIn l = commandOf (getD l 1 0)
 
--- six, with zeros behind those that there are
-abbrev pub fixedArguments : List ℕ → List ℕ
-fixedArguments l = sets noArgs 0 (take (argumentsOf (commandIn l)) (drop 2 l))
+-- six, with zeros behind those that there are in edition e
+abbrev pub fixedArguments : ℕ → List ℕ → List ℕ
+fixedArguments e l = sets noArgs 0 (take (argumentsOf e (commandIn l)) (drop 2 l))
 
 -- prefix, code, arguments
-abbrev pub lengthIn : List ℕ → ℕ
-lengthIn l = 2 + argumentsOf (commandIn l)
+abbrev pub lengthIn : ℕ → List ℕ → ℕ
+lengthIn e l = 2 + argumentsOf e (commandIn l)
 
 -- the number of a saved bitmap may end its command, so that this one goes byte by byte
-unfoldable pub isWhole : List ℕ → Bool
-isWhole l = eqb (getD l 0 0) 254 && not (eqb (getD l 1 0) 98) && leb (lengthIn l) (length l)
+unfoldable pub isWhole : ℕ → List ℕ → Bool
+isWhole e l = eqb (getD l 0 0) 254 && not (eqb (getD l 1 0) 98) && leb (lengthIn e l) (length l)
 
 -- how many bytes it has; 0 where none stands
-unfoldable pub wholeIn : Phase → List ℕ → ℕ
-wholeIn p l = cond (isIdle p && isWhole l) (lengthIn l) 0
+unfoldable pub wholeIn : ℕ → Phase → List ℕ → ℕ
+wholeIn e p l = cond (isIdle p && isWhole e l) (lengthIn e l) 0

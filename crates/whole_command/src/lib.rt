@@ -6,6 +6,7 @@ use outcome::Outcome;
 use outcome::refused;
 use refusals::UNKNOWN_COMMAND;
 use state::ARGUMENTS;
+use state::Config;
 use state::Phase;
 use state::Port;
 use state::arguments_of;
@@ -16,7 +17,7 @@ ghost use lib.ListN.{length, take, drop};
 ghost use lib.Seq.{sets};
 ghost use Rattle.state.specs.State.{noArgs};
 ghost use Rattle.rules.specs.Step.{obey};
-ghost use Rattle.outcome.specs.Contract.{lent, told, Obeys};
+ghost use Rattle.outcome.specs.Contract.{lent, told-both, Obeys};
 ghost use Rattle.whole_command.specs.Whole.{isIdle, commandIn, fixedArguments, wholeIn};
 
 // Prefix and code, before the arguments.
@@ -37,12 +38,13 @@ fn is_idle(phase: Phase) -> bool
             done: _,
         } => false,
         Phase::Upload {
-            kind: _,
+            sort: _,
             number: _,
             size: _,
             stored: _,
             waiting: _,
             byte: _,
+            waited: _,
         } => false,
     }
 }
@@ -54,8 +56,8 @@ fn least(a: usize, b: usize) -> usize
 }
 
 // The bytes of a command that stands whole at the front, outside any other; 0 where none does.
-pub fn whole_length(phase: Phase, bytes: &[u8]) -> usize
-    ensures { λ r. ⌜ r ≡ wholeIn phase (now (bytes .entry)) ⌝ }
+pub fn whole_length(edition: u8, phase: Phase, bytes: &[u8]) -> usize
+    ensures { λ r. ⌜ r ≡ wholeIn edition phase (now (bytes .entry)) ⌝ }
 {
     if !is_idle(phase) {
         return 0;
@@ -70,7 +72,7 @@ pub fn whole_length(phase: Phase, bytes: &[u8]) -> usize
         return 0;
     }
     let command = command_of(bytes[1]);
-    let length = ARGUMENTS_AT + arguments_of(command) as usize;
+    let length = ARGUMENTS_AT + arguments_of(edition, command) as usize;
     if bytes.len() < length {
         return 0;
     }
@@ -97,16 +99,19 @@ pub fn obey_whole(
     store: &mut [u8],
     panel: &mut [u8],
     port: Port,
-    height: u8,
+    config: Config,
     bytes: &[u8],
 ) -> Outcome
-    ensures { λ r. ⌜ Obeys (told height) (obey (commandIn (now (bytes .entry))) (fixedArguments (now (bytes .entry)))) port (lent (now (framebuffer .entry)) (now (framebuffer .exit))) (lent (now (store .entry)) (now (store .exit))) (lent (now (panel .entry)) (now (panel .exit))) r ⌝ }
+    ensures { λ r. ⌜ Obeys (told-both config) (obey (commandIn (now (bytes .entry))) (fixedArguments (config .edition) (now (bytes .entry)))) port (lent (now (framebuffer .entry)) (now (framebuffer .exit))) (lent (now (store .entry)) (now (store .exit))) (lent (now (panel .entry)) (now (panel .exit))) r ⌝ }
 {
     if bytes.len() < ARGUMENTS_AT {
         return refused(port, UNKNOWN_COMMAND);
     }
     let command = command_of(bytes[1]);
-    let count = least(arguments_of(command) as usize, bytes.len() - ARGUMENTS_AT);
+    let count = least(
+        arguments_of(config.edition, command) as usize,
+        bytes.len() - ARGUMENTS_AT,
+    );
     let args = fixed_arguments(bytes, count);
-    obey(command, args, framebuffer, store, panel, port, height)
+    obey(command, args, framebuffer, store, panel, port, config)
 }

@@ -7,8 +7,12 @@ use compare::record::{DRAWING, FLOW, HELD, LOST, PLACE, REFUSALS};
 use compare::report::expect;
 use compare::{random, streams};
 use reference::board::Board;
+use reference::case_file::{upload, upload_begun};
+use reference::coverage::ANSWERS;
+use reference::edition::{EDITIONS, NEWER, OLDER};
 use reference::generator::program_stream;
 use reference::glass::{HEIGHTS, LOW, TALL};
+use reference::input::of_bytes;
 use reference::prng::Prng;
 use reference::properties::{scenes, SEEDS};
 
@@ -31,6 +35,9 @@ fn scenes_whole() {
     let pair = all_scenes(SEEDS, |_| Plan::plain(Cuts::Whole));
     assert!(pair.counts.bytes_fed > 2_000_000, "only {} bytes", pair.counts.bytes_fed);
     pair.counts.met_on_both("feed", 0, SEEDS * 2 / 5);
+    pair.counts.met_in_both("feed", 0, SEEDS * 2 / 5);
+    pair.counts.met_on_both("time", 0, SEEDS);
+    pair.counts.met_in_both("time", 0, SEEDS);
 }
 
 #[test]
@@ -41,12 +48,13 @@ fn scenes_byte_by_byte() {
 #[test]
 fn scenes_in_pieces_with_little_room() {
     let pair = all_scenes(SEEDS, |seed| {
-        // four seeds in a row meet both heights and both beginnings
-        let cuts = [Cuts::Few, Cuts::Mixed, Cuts::Long, Cuts::Whole][seed as usize / 4 % 4];
-        let rooms = [Rooms::Scarce, Rooms::Mixed][seed as usize / 16 % 2];
+        // eight seeds in a row meet both heights, both editions and both beginnings
+        let cuts = [Cuts::Few, Cuts::Mixed, Cuts::Long, Cuts::Whole][seed as usize / 8 % 4];
+        let rooms = [Rooms::Scarce, Rooms::Mixed][seed as usize / 32 % 2];
         Plan { cuts, rooms, between: 0 }
     });
     pair.counts.met("feed", 5, 10_000);
+    pair.counts.met("time", 5, 1_000);
 }
 
 /// What the fuzzer does, over seeds that stay; every answer and signal is met.
@@ -57,11 +65,11 @@ fn lists_of_calls() {
         let result = run_seed(&mut pair, seed);
         expect(&mut pair, &format!("seed {seed}"), result);
     }
-    let answers = [("start", &[0, 1, 2, 3, 4][..]), ("feed", &[0, 1, 2, 3, 4, 5]), ("arrive", &[0, 3, 7]), ("take", &[0, 3, 6])];
-    for (name, answers) in answers {
+    for (name, answers) in ANSWERS {
         for &answer in answers {
-            pair.counts.met(name, answer, 100);
-            pair.counts.met_on_both(name, answer, 10);
+            pair.counts.met(name, answer as u32, 100);
+            pair.counts.met_on_both(name, answer as u32, 10);
+            pair.counts.met_in_both(name, answer as u32, 10);
         }
     }
     for signal in [254, 255] {
@@ -89,15 +97,15 @@ fn every_colour_byte() {
     let mut pair = Pair::default();
     let mut rng = Prng::new(14);
     for height in HEIGHTS {
-        let board = Board::fresh(pair.font(), height, vec![0; 1024]);
         for colour in 0..=255 {
+            let board = Board::fresh(pair.font(), height, EDITIONS[colour as usize % 2], vec![0; 1024]);
             let drawing = [254, 99, colour, 254, 112, 3, 60, 254, 108, 0, 9, 50, 63, 254, 101, 9, 9];
             let shapes = [254, 114, colour, 60, 5, 90, 70, 254, 120, colour, 100, 5, 140, 70, 254, 112, 5, 60];
             for cuts in [Cuts::Whole, Cuts::Bytes] {
                 let mut memory = Memory::of(&board);
                 memory.glass = random::bytes(&mut rng, memory.glass.len());
                 memory.state[DRAWING] = rng.below(2) as u8;
-                let stream = [&drawing[..], &shapes].concat();
+                let stream = of_bytes(&[&drawing[..], &shapes].concat());
                 let result = run(&mut pair, &mut memory, &stream, Plan::plain(cuts), &mut rng);
                 expect(&mut pair, &format!("colour {colour}, {height} rows"), result);
                 assert_eq!(memory.state[DRAWING], (colour != 0) as u8, "colour {colour}");
@@ -111,17 +119,19 @@ fn every_colour_byte() {
 fn every_room() {
     let mut pair = Pair::default();
     let mut rng = Prng::new(12);
-    let uploads = |rng: &mut Prng| {
-        let mut stream = vec![254, 52, 3, 4, 254, 94, 200, 9, 0];
-        (0..9).for_each(|_| stream.extend([rng.byte(), 1]));
-        stream.extend([254, 36, 1, 1, 0, 254, 52, 5, 6, 65, 254, 112, 3, 3]);
+    let uploads = |rng: &mut Prng, edition: u8| {
+        let file = random::bytes(rng, 9);
+        let mut stream = vec![254, 52, 3, 4];
+        stream.extend(upload(edition, 94, 200, &file));
+        stream.extend(upload_begun(edition, 36, 1, 1));
+        stream.extend([254, 52, 5, 6, 65, 254, 112, 3, 3]);
         stream
     };
-    for number in 0..40 {
-        let height = HEIGHTS[number / 2 % 2];
-        let board = Board::fresh(pair.font(), height, random::store(&mut rng, height));
-        let memory = if number % 2 == 0 { Memory::of(&board) } else { random::memory(&mut rng) };
-        let piece = if number % 4 < 2 { uploads(&mut rng) } else { streams::commands(&mut rng, &memory) };
+    for number in 0..48 {
+        let (height, edition) = (HEIGHTS[number / 2 % 2], EDITIONS[number / 8 % 2]);
+        let board = Board::fresh(pair.font(), height, edition, random::store(&mut rng, height));
+        let memory = if number % 2 == 0 { Memory::of(&board) } else { random::memory_with(&mut rng, height, edition) };
+        let piece = if number % 4 < 2 { uploads(&mut rng, edition) } else { streams::commands(&mut rng, &memory) };
         for room in 0..40 {
             let result = pair.call(&mut memory.clone(), Call::Feed { piece: &piece, room });
             expect(&mut pair, &format!("memory {number}, room {room}"), result.map(drop));
@@ -134,7 +144,7 @@ fn every_room() {
 fn long_pieces() {
     let mut pair = Pair::default();
     for height in HEIGHTS {
-        let mut memory = Memory::of(&Board::fresh(pair.font(), height, vec![0; 32768]));
+        let mut memory = Memory::of(&Board::fresh(pair.font(), height, OLDER, vec![0; 32768]));
         let mut piece = Vec::new();
         for seed in 0.. {
             piece.extend(program_stream(pair.font(), height, seed));
@@ -145,7 +155,7 @@ fn long_pieces() {
         let result = pair.call(&mut memory, Call::Feed { piece: &piece, room: 2 * piece.len() });
         expect(&mut pair, &format!("a long stream of {height} rows"), result.map(drop));
     }
-    let mut memory = Memory::of(&Board::fresh(pair.font(), TALL, vec![0; 1024]));
+    let mut memory = Memory::of(&Board::fresh(pair.font(), TALL, NEWER, vec![0; 1024]));
     let serial = [254, 52, 7, 9].repeat(40_000);
     let result = pair.call(&mut memory, Call::Feed { piece: &serial, room: 100_000 });
     expect(&mut pair, "many replies", result.map(drop));
@@ -195,7 +205,7 @@ fn flow_changed_between() {
 #[test]
 fn counts_roll_over() {
     let mut pair = Pair::default();
-    let mut memory = Memory::of(&Board::fresh(pair.font(), LOW, vec![0; 1024]));
+    let mut memory = Memory::of(&Board::fresh(pair.font(), LOW, OLDER, vec![0; 1024]));
     memory.queue[HELD] = 80;
     for count in [0u16, 1, 254, 255, 256, 511, 32767, 65279, 65280, 65534, 65535] {
         memory.state[REFUSALS..REFUSALS + 2].copy_from_slice(&count.to_le_bytes());

@@ -9,8 +9,10 @@ use compare::record::{BARS, FLOW, HEIGHT, QUEUE_BYTES, STATE_BYTES};
 use compare::report::expect;
 use compare::streams;
 use reference::checks_start::UNKNOWN;
+use reference::edition::{EDITIONS, OLDER};
 use reference::glass::{glass_bytes, HEIGHTS, LOW, TALL};
 use reference::prng::Prng;
+use reference::start::Choice;
 
 fn sized(slice: &[u8], length: usize) -> Vec<u8> {
     let mut all = slice.to_vec();
@@ -18,9 +20,15 @@ fn sized(slice: &[u8], length: usize) -> Vec<u8> {
     all
 }
 
+fn older(height: u32) -> Call<'static> {
+    Call::Start(Choice { height, edition: OLDER as u32 })
+}
+
 fn feed_and_queue(pair: &mut Pair, memory: &Memory) -> Run {
     pair.call(&mut memory.clone(), Call::Feed { piece: &[254, 88, 65], room: 9 })?;
     pair.call(&mut memory.clone(), Call::Feed { piece: &[], room: 0 })?;
+    pair.call(&mut memory.clone(), Call::Time { milliseconds: 2100, room: 2 })?;
+    pair.call(&mut memory.clone(), Call::Time { milliseconds: 0, room: 1 })?;
     pair.call(&mut memory.clone(), Call::Arrive(7))?;
     pair.call(&mut memory.clone(), Call::Take)?;
     Ok(())
@@ -38,7 +46,7 @@ fn every_height_given_to_start() {
         for glass in [glass_bytes(LOW), glass_bytes(TALL), height.min(300) as usize * 30] {
             let mut other = memory.clone();
             other.glass = random::bytes(&mut rng, glass);
-            let result = pair.call(&mut other, Call::Start(height));
+            let result = pair.call(&mut other, older(height));
             expect(&mut pair, &format!("height {height}, glass of {glass}"), result.map(drop));
         }
     }
@@ -65,6 +73,7 @@ fn every_height_in_the_record() {
         }
     }
     pair.counts.met("feed", 3, 5000);
+    pair.counts.met("time", 3, 5000);
     pair.counts.met("arrive", 3, 2000);
     pair.counts.met("take", 3, 2000);
 }
@@ -85,9 +94,10 @@ fn record_of_one_and_glass_of_the_other() {
         memory.state[HEIGHT] = other;
         let result = feed_and_queue(&mut pair, &memory);
         expect(&mut pair, &format!("memory {number} with the other height"), result);
-        let result = pair.call(&mut memory, Call::Start(other as u32));
+        let result = pair.call(&mut memory, Call::Start(Choice::of(other, EDITIONS[number / 2 % 2])));
         expect(&mut pair, &format!("memory {number} started"), result.map(drop));
-        let stream = streams::commands(&mut rng, &memory);
+        let bytes = streams::commands(&mut rng, &memory);
+        let stream = streams::with_times(&mut rng, &bytes);
         let result = run(&mut pair, &mut memory, &stream, Plan::plain(Cuts::Mixed), &mut rng);
         expect(&mut pair, &format!("memory {number} after its start"), result);
     }
@@ -103,7 +113,9 @@ fn order_of_the_answers() {
     let mut rng = Prng::new(34);
     for own in HEIGHTS {
         let good = random::memory_of(&mut rng, own);
-        for (glass, store) in glass_lengths().into_iter().flat_map(|glass| [1023, 1024, 32769].map(|store| (glass, store))) {
+        for (glass, store) in
+            glass_lengths().into_iter().flat_map(|glass| [1023, 1024, 32769].map(|store| (glass, store)))
+        {
             for (state, queue) in [(0, 0), (0, 1), (1, 0), (1, 1)] {
                 for damage in 0..5 {
                     let mut bad = good.clone();
@@ -121,6 +133,7 @@ fn order_of_the_answers() {
     for answer in 1..=3 {
         pair.counts.met_on_both("feed", answer, 20);
         pair.counts.met_on_both("start", answer, 20);
+        pair.counts.met_on_both("time", answer, 20);
     }
     pair.counts.met("start", 4, 1);
 }
@@ -143,7 +156,7 @@ fn damage_record(bad: &mut Memory, damage: usize) {
 fn both(pair: &mut Pair, memory: &Memory) -> Run {
     feed_and_queue(pair, memory)?;
     for height in [64, 128, 65, 320] {
-        pair.call(&mut memory.clone(), Call::Start(height))?;
+        pair.call(&mut memory.clone(), older(height))?;
     }
     Ok(())
 }
@@ -154,15 +167,20 @@ fn record_lengths_at_start() {
     let mut pair = Pair::default();
     let mut rng = Prng::new(35);
     let memory = random::memory_of(&mut rng, TALL);
-    for state in lengths(STATE_BYTES).into_iter().chain([201]) {
+    // the lengths that a record had before it knew of heights, and of editions, among them
+    for state in lengths(STATE_BYTES).into_iter().chain([201, 202]) {
         for queue in lengths(QUEUE_BYTES) {
             for (height, glass) in [(64, 1920), (64, 3840), (128, 3840), (128, 1920), (0, 0), (384, 3840), (64, 1919)] {
                 let mut bad = memory.clone();
                 bad.glass = sized(&memory.glass, glass);
                 bad.state = sized(&memory.state, state);
                 bad.queue = sized(&memory.queue, queue);
-                let result = pair.call(&mut bad, Call::Start(height));
-                expect(&mut pair, &format!("records {state} {queue}, height {height}, glass {glass}"), result.map(drop));
+                let result = pair.call(&mut bad, older(height));
+                expect(
+                    &mut pair,
+                    &format!("records {state} {queue}, height {height}, glass {glass}"),
+                    result.map(drop),
+                );
             }
         }
     }

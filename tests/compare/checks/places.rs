@@ -2,16 +2,21 @@
 
 use compare::compare::{Call, Pair};
 use compare::damage::{self, glass_lengths, lengths, STORE_LENGTHS};
+use compare::damage_directory;
 use compare::expect::Expect;
 use compare::lists::{any_calls, Run};
 use compare::memory::Memory;
 use compare::random;
-use compare::record::{HEIGHT, PHASE, QUEUE_BYTES, STATE_BYTES};
+use compare::record::{EDITION, HEIGHT, PHASE, QUEUE_BYTES, STATE_BYTES};
 use compare::report::expect;
 use compare::streams;
-use reference::files::DIRECTORY;
+use reference::case_file::upload_begun;
+use reference::directory::{Kind, Record, DIRECTORY};
+use reference::edition::{number_sent, EDITIONS};
+use reference::generator_start::put_records;
 use reference::glass::HEIGHTS;
 use reference::prng::Prng;
+use reference::start::Choice;
 
 /// Random sound memory with a short store, to be quick.
 fn short_memory(rng: &mut Prng) -> Memory {
@@ -23,13 +28,14 @@ fn short_memory(rng: &mut Prng) -> Memory {
     }
 }
 
-/// Memories that a feed does not refuse, `each` of them in each phase of each height.
+/// Memories that a feed does not refuse, `each` of them in each phase of each height and edition.
 fn of_each_phase(rng: &mut Prng, each: usize) -> Vec<Memory> {
-    let mut found = [[0; 5]; 2];
+    let mut found = [[0; 5]; 4];
     let mut all = Vec::new();
     while found.iter().flatten().any(|&count| count < each) {
         let memory = short_memory(rng);
-        let count = &mut found[(memory.state[HEIGHT] == HEIGHTS[1]) as usize][memory.state[PHASE] as usize];
+        let (tall, newer) = (memory.state[HEIGHT] == HEIGHTS[1], memory.state[EDITION] == EDITIONS[1]);
+        let count = &mut found[2 * tall as usize + newer as usize][memory.state[PHASE] as usize];
         let accepted = Expect::default().feed(&mut memory.clone(), &[], &mut []).answer == 0;
         if *count < each && accepted {
             *count += 1;
@@ -39,11 +45,14 @@ fn of_each_phase(rng: &mut Prng, each: usize) -> Vec<Memory> {
     all
 }
 
-/// All four functions on copies of the same memory; start for either glass.
-fn four(pair: &mut Pair, memory: &Memory, piece: &[u8]) -> Run {
+/// All five functions on copies of the same memory; start for either glass.
+fn five(pair: &mut Pair, memory: &Memory, piece: &[u8]) -> Run {
     pair.call(&mut memory.clone(), Call::Feed { piece, room: 3 })?;
+    pair.call(&mut memory.clone(), Call::Time { milliseconds: 1, room: 2 })?;
+    pair.call(&mut memory.clone(), Call::Time { milliseconds: 2100, room: piece.len() })?;
     for height in HEIGHTS {
-        pair.call(&mut memory.clone(), Call::Start(height as u32))?;
+        let edition = EDITIONS[piece.len() % 2];
+        pair.call(&mut memory.clone(), Call::Start(Choice::of(height, edition)))?;
     }
     both_of_the_queue(pair, memory)
 }
@@ -54,7 +63,7 @@ fn both_of_the_queue(pair: &mut Pair, memory: &Memory) -> Run {
     Ok(())
 }
 
-/// Each of the 202 places with each value, in every phase of each height.
+/// Each of the 207 places with each value, in every phase of each height and edition.
 #[test]
 fn every_place_of_the_state_record() {
     let mut pair = Pair::default();
@@ -66,7 +75,10 @@ fn every_place_of_the_state_record() {
                 bad.state[place] = value;
                 let piece = &[254, 3][..value as usize % 3];
                 let result = match value {
-                    0..4 | 255 => four(&mut pair, &bad, piece),
+                    0..4 | 255 => five(&mut pair, &bad, piece),
+                    _ if value % 4 == 0 => {
+                        pair.call(&mut bad.clone(), Call::Time { milliseconds: 0, room: 2 }).map(drop)
+                    }
                     _ => pair.call(&mut bad.clone(), Call::Feed { piece, room: 3 }).map(drop),
                 };
                 expect(&mut pair, &format!("memory {number}, place {place}, value {value}"), result);
@@ -74,8 +86,10 @@ fn every_place_of_the_state_record() {
             bad.state[place] = memory.state[place];
         }
     }
-    pair.counts.met("feed", 0, 40_000);
-    pair.counts.met("feed", 3, 100_000);
+    for (call, good, bad) in [("feed", 40_000, 100_000), ("time", 10_000, 25_000)] {
+        pair.counts.met(call, 0, good);
+        pair.counts.met(call, 3, bad);
+    }
 }
 
 /// The same for arriving and taking, which are quick, over more memories.
@@ -116,8 +130,10 @@ fn every_place_of_the_directory() {
         for place in 0..DIRECTORY {
             for value in 0..=255 {
                 bad.store[place] = value;
+                let own = Choice::of(bad.state[HEIGHT], bad.state[EDITION]);
                 let result = match value % 8 {
-                    0 => pair.call(&mut bad.clone(), Call::Start(bad.state[HEIGHT] as u32)),
+                    0 => pair.call(&mut bad.clone(), Call::Start(own)),
+                    1 => pair.call(&mut bad.clone(), Call::Time { milliseconds: 2100, room: 2 }),
                     _ => pair.call(&mut bad.clone(), Call::Feed { piece: &[65][..place % 2], room: 2 }),
                 };
                 expect(&mut pair, &format!("memory {number}, place {place}, value {value}"), result.map(drop));
@@ -127,6 +143,7 @@ fn every_place_of_the_directory() {
     }
     pair.counts.met("feed", 4, 10_000);
     pair.counts.met("start", 4, 1_000);
+    pair.counts.met("time", 4, 1_000);
 }
 
 /// Each wrong length with each other one, so that the order of the answers shows too.
@@ -153,7 +170,7 @@ fn every_length_with(pair: &mut Pair, memory: &Memory, rng: &mut Prng) {
                 bad.state = sized(&memory.state, state);
                 let queue = [QUEUE_BYTES, rng.pick(&lengths(QUEUE_BYTES))][rng.below(2)];
                 bad.queue = sized(&memory.queue, queue);
-                let result = four(pair, &bad, &[65]);
+                let result = five(pair, &bad, &[65]);
                 expect(pair, &format!("lengths {glass} {store} {state} {queue}"), result);
             }
         }
@@ -177,12 +194,15 @@ fn stores_at_their_limits() {
             let area = length - DIRECTORY;
             let first = [1, 100, area - 1, area, area + 1][number % 5];
             memory.store = random::bytes(&mut rng, length);
-            memory.store[..DIRECTORY].fill(0);
-            memory.store[..4].copy_from_slice(&[2, 9, first as u8, (first / 256) as u8]);
+            let kind = [Kind::Bitmap, Kind::NewerBitmap][number / 5 % 2];
+            put_records(&mut memory.store, &[Record { kind, number: 9, size: first as u32 }]);
             let rest = area.saturating_sub(first).max(1);
-            let mut piece = vec![254, 94, 10, rest as u8, (rest / 256) as u8, 5, 1, 6, 1, 254, 173, 1, 9];
+            let edition = memory.state[EDITION];
+            let mut piece = upload_begun(edition, 94, 10, rest);
+            piece.extend([5, 1, 6, 1, 254, 173, 1]);
+            piece.extend(number_sent(edition, 9));
             piece.extend(streams::commands(&mut rng, &memory));
-            let result = four(&mut pair, &memory, &piece);
+            let result = five(&mut pair, &memory, &piece);
             expect(&mut pair, &format!("store of {length}, number {number}"), result);
         }
     }
@@ -199,13 +219,21 @@ fn uploads_that_would_be_refused_now() {
         let mut memory = short_memory(&mut rng);
         damage::upload(&mut rng, &mut memory);
         if rng.percent(50) {
-            damage::directory(&mut rng, &mut memory.store);
+            damage_directory::directory(&mut rng, &mut memory.store);
         }
-        let result = pair.call(&mut memory, Call::Feed { piece: &[1, 1, 7, 1, 254, 1], room: 9 });
+        let call = match number % 3 {
+            0 => Call::Time { milliseconds: [0, 1, 2099, 2100][number / 3 % 4], room: 2 },
+            _ => Call::Feed { piece: &[1, 1, 7, 1, 254, 1], room: 9 },
+        };
+        let result = pair.call(&mut memory, call);
         expect(&mut pair, &format!("memory {number}"), result.map(drop));
     }
     pair.counts.met("feed", 0, 500);
     pair.counts.met("feed", 4, 500);
+    for call in ["feed", "time"] {
+        pair.counts.met_in_both(call, 0, 100);
+        pair.counts.met_in_both(call, 4, 100);
+    }
 }
 
 /// Several things wrong at once, and a few calls on what is left.
@@ -222,5 +250,6 @@ fn damage_of_every_kind() {
     }
     for answer in 0..=5 {
         pair.counts.met("feed", answer, 50);
+        pair.counts.met("time", answer, 50);
     }
 }

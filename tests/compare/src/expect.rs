@@ -4,11 +4,13 @@
 
 use crate::library::Returned;
 use crate::memory::Memory;
-use crate::record::{decode_queue, decode_state, encode_queue, encode_state, lent, HEIGHT, QUEUE_BYTES, STATE_BYTES};
+use crate::record::{decode_queue, decode_state, encode_queue, encode_state, lent};
+use crate::record::{EDITION, HEIGHT, QUEUE_BYTES, STATE_BYTES};
 use reference::builtin::built_in_font;
 use reference::feed;
 use reference::glass::Glass;
 use reference::queue::{self, Queue, RING};
+use reference::start::{self, Choice};
 use reference::state::State;
 
 /// The font, and the last glass in both forms: most calls go on where the last one ended,
@@ -43,12 +45,13 @@ impl Expect {
     }
 
     /// A start looks at the records' lengths only, and keeps the ring's bytes.
-    pub fn start(&mut self, memory: &mut Memory, height: u32) -> Returned {
+    pub fn start(&mut self, memory: &mut Memory, given: Choice) -> Returned {
         let mut glass = self.dots(&memory.glass);
-        let mut state = (memory.state.len() == STATE_BYTES).then(|| State::at_start(memory.state[HEIGHT]));
+        let mut state =
+            (memory.state.len() == STATE_BYTES).then(|| State::at_start(memory.state[HEIGHT], memory.state[EDITION]));
         let mut queue = (memory.queue.len() == QUEUE_BYTES)
             .then(|| Queue { ring: memory.queue[..RING].to_vec(), ..Queue::at_start() });
-        let answer = feed::start(height, &mut glass, &memory.store, state.as_mut(), queue.as_mut());
+        let answer = start::start(given, &mut glass, &memory.store, state.as_mut(), queue.as_mut());
         if answer == 0 {
             memory.glass.copy_from_slice(self.bytes(glass));
             memory.state.copy_from_slice(&encode_state(&state.unwrap()));
@@ -69,6 +72,20 @@ impl Expect {
             memory.state.copy_from_slice(&encode_state(&state.unwrap()));
         }
         Returned { answer: fed.answer as u32, consumed: fed.consumed, replied, ..Returned::default() }
+    }
+
+    /// Only the record and the replies may change.
+    pub fn time(&mut self, memory: &mut Memory, milliseconds: u32, replies: &mut [u8]) -> Returned {
+        let glass = self.dots(&memory.glass);
+        let mut state = decode_state(&memory.state);
+        let record = lent(&memory.state, state.as_mut());
+        let timed = feed::time(&self.font, &glass, &memory.store, record, milliseconds, replies.len());
+        let replied = timed.replies.len();
+        replies[..replied].copy_from_slice(&timed.replies);
+        if timed.answer == 0 {
+            memory.state.copy_from_slice(&encode_state(&state.unwrap()));
+        }
+        Returned { answer: timed.answer as u32, replied, ..Returned::default() }
     }
 
     pub fn arrive(&mut self, memory: &mut Memory, byte: u8) -> Returned {

@@ -1,7 +1,8 @@
-//! Compares the library's four C functions with the reference, call by call and byte by byte.
+//! Compares the library's five C functions with the reference, call by call and byte by byte.
 
 pub mod compare;
 pub mod damage;
+pub mod damage_directory;
 pub mod expect;
 pub mod lent;
 pub mod library;

@@ -1,12 +1,14 @@
-//! The library's four functions, each called on guarded copies.
+//! The library's five functions, each called on guarded copies.
 
 use crate::lent::{Lent, Out};
 use crate::memory::Memory;
+use reference::start::Choice;
 
+#[rustfmt::skip]
 mod c {
     extern "C" {
         pub fn display_start(
-            height: u32,
+            height: u32, edition: u32,
             glass: *mut u8, glass_length: u64,
             store: *mut u8, store_length: u64,
             state: *mut u8, state_length: u64,
@@ -19,6 +21,14 @@ mod c {
             piece: *const u8, piece_length: u64,
             replies: *mut u8, replies_length: u64,
             consumed: *mut u64, replied: *mut u64,
+        ) -> u32;
+        pub fn display_time(
+            glass: *const u8, glass_length: u64,
+            store: *const u8, store_length: u64,
+            state: *mut u8, state_length: u64,
+            milliseconds: u32,
+            replies: *mut u8, replies_length: u64,
+            replied: *mut u64,
         ) -> u32;
         pub fn display_arrive(
             state: *const u8, state_length: u64,
@@ -58,14 +68,15 @@ pub struct Library {
 type Told = Result<Returned, String>;
 
 impl Library {
-    pub fn start(&mut self, memory: &Memory, height: u32) -> Told {
+    pub fn start(&mut self, memory: &Memory, given: Choice) -> Told {
         self.lend_panel(memory);
         self.queue.fill(&memory.queue, self.turn + 3);
         let (glass, store, state, queue) = (&mut self.glass, &mut self.store, &mut self.state, &mut self.queue);
         // SAFETY: four separate buffers, each with its true length.
+        #[rustfmt::skip]
         let answer = unsafe {
             c::display_start(
-                height,
+                given.height, given.edition,
                 glass.pointer(), glass.length(),
                 store.pointer(), store.length(),
                 state.pointer(), state.length(),
@@ -84,6 +95,7 @@ impl Library {
         let (mut consumed, mut replied) = (Out::new(0xABCD_EF01_u64 ^ self.turn), Out::new(u64::MAX));
         let (glass, store, state) = (&mut self.glass, &mut self.store, &mut self.state);
         // SAFETY: five separate buffers, each with its true length; the two numbers are distinct and aligned.
+        #[rustfmt::skip]
         let answer = unsafe {
             c::display_feed(
                 glass.pointer(), glass.length(),
@@ -94,11 +106,42 @@ impl Library {
                 consumed.pointer(), replied.pointer(),
             )
         };
-        guards(&[("glass", glass), ("store", store), ("state", state), ("piece", &self.piece), ("replies", &self.replies)])?;
+        guards(&[
+            ("glass", glass),
+            ("store", store),
+            ("state", state),
+            ("piece", &self.piece),
+            ("replies", &self.replies),
+        ])?;
         beside(&[("consumed", consumed.overrun()), ("replied", replied.overrun())])?;
         unchanged("piece", piece, &self.piece)?;
         let (consumed, replied) = (consumed.value() as usize, replied.value() as usize);
         Ok(Returned { answer, consumed, replied, ..Returned::default() })
+    }
+
+    /// Glass and store are lent for reading; the replies as for a feed.
+    pub fn time(&mut self, memory: &Memory, milliseconds: u32, replies: &[u8]) -> Told {
+        self.lend_panel(memory);
+        self.replies.fill(replies, self.turn + 3);
+        let mut replied = Out::new(0xFEDC_BA98_u64 ^ self.turn);
+        let (glass, store, state) = (&mut self.glass, &mut self.store, &mut self.state);
+        // SAFETY: four separate buffers, each with its true length; the number is aligned.
+        #[rustfmt::skip]
+        let answer = unsafe {
+            c::display_time(
+                glass.pointer(), glass.length(),
+                store.pointer(), store.length(),
+                state.pointer(), state.length(),
+                milliseconds,
+                self.replies.pointer(), self.replies.length(),
+                replied.pointer(),
+            )
+        };
+        guards(&[("glass", glass), ("store", store), ("state", state), ("replies", &self.replies)])?;
+        beside(&[("replied", replied.overrun())])?;
+        unchanged("glass", &memory.glass, glass)?;
+        unchanged("store", &memory.store, store)?;
+        Ok(Returned { answer, replied: replied.value() as usize, ..Returned::default() })
     }
 
     pub fn arrive(&mut self, memory: &Memory, byte: u8) -> Told {

@@ -4,12 +4,15 @@ use crate::compare::{Call, Failure, Pair};
 use crate::damage;
 use crate::memory::Memory;
 use crate::random;
-use crate::record::{FLOW, HEIGHT, PHASE, QUEUE_BYTES, STATE_BYTES};
+use crate::record::{EDITION, FLOW, HEIGHT, PHASE, QUEUE_BYTES, STATE_BYTES};
 use crate::streams;
+use reference::checks_start::{UNKNOWN, UNKNOWN_EDITIONS};
+use reference::edition::EDITIONS;
 use reference::generator::{any_scene, fresh_scene};
-use reference::checks_start::UNKNOWN;
 use reference::glass::{glass_bytes, HEIGHTS};
+use reference::input::{leading_bytes, of_bytes, Input};
 use reference::prng::Prng;
+use reference::start::Choice;
 
 pub type Run = Result<(), Box<Failure>>;
 
@@ -55,33 +58,34 @@ impl Plan {
 
 /// Everything that a seed stands for.
 pub fn run_seed(pair: &mut Pair, seed: u64) -> Run {
-    let mut rng = Prng::new(seed ^ 0x00C0_FFEE);
+    // numbers of its own: those of neighbouring seeds overlap
+    let mut rng = Prng::new(Prng::new(seed ^ 0x00C0_FFEE).next());
     let (mut memory, mut stream) = beginning(pair, seed, &mut rng)?;
     let mut plan = Plan::any(&mut rng);
     if rng.below(500) == 0 {
         // now and then more bytes in one piece than two bytes can count
-        stream = streams::noise(&mut rng, 70_000);
+        stream = of_bytes(&streams::noise(&mut rng, 70_000));
         plan = Plan::plain(Cuts::Whole);
     }
     run(pair, &mut memory, &stream, plan, &mut rng)?;
     if rng.percent(30) {
-        damaged(pair, &memory, &stream, &mut rng, 12)?;
+        damaged(pair, &memory, &leading_bytes(&stream), &mut rng, 12)?;
     }
     Ok(())
 }
 
-fn beginning(pair: &mut Pair, seed: u64, rng: &mut Prng) -> Result<(Memory, Vec<u8>), Box<Failure>> {
+fn beginning(pair: &mut Pair, seed: u64, rng: &mut Prng) -> Result<(Memory, Vec<Input>), Box<Failure>> {
     match rng.below(8) {
         0..=2 => {
             let scene = fresh_scene(pair.font(), seed);
-            let height = scene.begin.state.height;
+            let (height, edition) = (scene.begin.state.height, scene.begin.state.edition);
             let mut memory = Memory {
                 glass: random::bytes(rng, glass_bytes(height)),
                 store: scene.begin.store,
                 state: random::bytes(rng, STATE_BYTES),
                 queue: random::bytes(rng, QUEUE_BYTES),
             };
-            pair.call(&mut memory, Call::Start(height as u32))?;
+            pair.call(&mut memory, Call::Start(Choice::of(height, edition)))?;
             Ok((memory, scene.stream))
         }
         3..=5 => {
@@ -91,22 +95,36 @@ fn beginning(pair: &mut Pair, seed: u64, rng: &mut Prng) -> Result<(Memory, Vec<
         6 => {
             let memory = random::memory(rng);
             let stream = streams::commands(rng, &memory);
-            Ok((memory, stream))
+            Ok((memory, streams::with_times(rng, &stream)))
         }
         _ => {
             let memory = random::memory(rng);
             let count = rng.between(1, 600);
-            Ok((memory, streams::noise(rng, count)))
+            let stream = streams::noise(rng, count);
+            Ok((memory, streams::with_times(rng, &stream)))
         }
     }
 }
 
-/// Feeds the whole stream, as the plan says.
-pub fn run(pair: &mut Pair, memory: &mut Memory, stream: &[u8], plan: Plan, rng: &mut Prng) -> Run {
+/// Hands over the whole stream, as the plan says.
+pub fn run(pair: &mut Pair, memory: &mut Memory, stream: &[Input], plan: Plan, rng: &mut Prng) -> Run {
     let mut left = stream;
-    while !left.is_empty() {
+    while let Some(&next) = left.first() {
         if rng.percent(plan.between) {
-            between(pair, memory, left, rng)?;
+            between(pair, memory, &leading_bytes(left), rng)?;
+            continue;
+        }
+        if let Input::Time(milliseconds) = next {
+            let room = match plan.rooms {
+                Rooms::Plenty => 2,
+                Rooms::Scarce => rng.below(4),
+                Rooms::Mixed => rng.pick(&[0, 1, 2, 3, 9, 200]),
+            };
+            let answer = pair.call(memory, Call::Time { milliseconds, room })?.answer;
+            if answer != 0 && answer != 5 {
+                return Ok(());
+            }
+            left = &left[(answer == 0) as usize..];
             continue;
         }
         let size = match plan.cuts {
@@ -116,7 +134,7 @@ pub fn run(pair: &mut Pair, memory: &mut Memory, stream: &[u8], plan: Plan, rng:
             Cuts::Long => rng.between(100, 2000),
             Cuts::Whole => left.len(),
         };
-        let piece = &left[..size.min(left.len())];
+        let piece = &leading_bytes(&left[..size.min(left.len())])[..];
         let room = match plan.rooms {
             Rooms::Plenty => 2 * piece.len() + 2,
             Rooms::Scarce => rng.below(6),
@@ -133,28 +151,56 @@ pub fn run(pair: &mut Pair, memory: &mut Memory, stream: &[u8], plan: Plan, rng:
 }
 
 fn between(pair: &mut Pair, memory: &mut Memory, left: &[u8], rng: &mut Prng) -> Run {
-    match rng.below(20) {
+    match rng.below(21) {
         0..=5 => arrivals(pair, memory, rng),
         6..=11 => takes(pair, memory, rng),
         12 | 13 => set_flow(pair, memory, rng),
         14 => {
             // a start on a copy, so that the stream can go on
-            let height = start_height(rng, memory);
-            pair.call(&mut memory.clone(), Call::Start(height))?;
+            let given = start_choice(rng, memory);
+            pair.call(&mut memory.clone(), Call::Start(given))?;
             Ok(())
         }
+        15 => any_time(pair, memory, rng),
         _ => damaged(pair, memory, left, rng, 1),
     }
 }
 
-/// The record's own height most often, else either, or one that no glass has.
-pub fn start_height(rng: &mut Prng, memory: &Memory) -> u32 {
-    match rng.below(10) {
+/// The record's own height and edition most often, else any of the known ones, or one that there is not.
+pub fn start_choice(rng: &mut Prng, memory: &Memory) -> Choice {
+    let recorded = |place: usize, else_: u32| memory.state.get(place).map_or(else_, |&byte| byte as u32);
+    let height = match rng.below(10) {
         0 => rng.pick(&UNKNOWN),
         1 => rng.next() as u32,
         2 | 3 => rng.pick(&HEIGHTS) as u32,
-        _ => memory.state.get(HEIGHT).map_or(64, |&height| height as u32),
+        _ => recorded(HEIGHT, 64),
+    };
+    let edition = match rng.below(10) {
+        0 => rng.pick(&UNKNOWN_EDITIONS),
+        1 => rng.next() as u32,
+        2..=5 => rng.pick(&EDITIONS) as u32,
+        _ => recorded(EDITION, 1),
+    };
+    Choice { height, edition }
+}
+
+/// Times that matter to an upload, and any others.
+pub fn milliseconds(rng: &mut Prng) -> u32 {
+    match rng.below(10) {
+        0 => rng.next() as u32,
+        1 => rng.pick(&[65535, 65536, 65537, 1 << 24, 1 << 31, u32::MAX - 1, u32::MAX]),
+        2 => rng.pick(&[2098, 2099, 2100, 2101]),
+        3 => rng.below(2100) as u32,
+        _ => rng.pick(&[0, 1, 2, 20, 100, 700]),
     }
+}
+
+fn any_time(pair: &mut Pair, memory: &mut Memory, rng: &mut Prng) -> Run {
+    for _ in 0..rng.between(1, 4) {
+        let (milliseconds, room) = (milliseconds(rng), rng.pick(&[0, 1, 2, 3, 100]));
+        pair.call(memory, Call::Time { milliseconds, room })?;
+    }
+    Ok(())
 }
 
 pub fn arrivals(pair: &mut Pair, memory: &mut Memory, rng: &mut Prng) -> Run {
@@ -197,13 +243,17 @@ pub fn damaged(pair: &mut Pair, memory: &Memory, left: &[u8], rng: &mut Prng, co
 
 pub fn any_calls(pair: &mut Pair, memory: &mut Memory, left: &[u8], rng: &mut Prng) -> Run {
     for _ in 0..rng.between(1, 4) {
-        match rng.below(8) {
+        match rng.below(9) {
             0 => {
-                let height = start_height(rng, memory);
-                pair.call(memory, Call::Start(height))?
+                let given = start_choice(rng, memory);
+                pair.call(memory, Call::Start(given))?
             }
             1 => pair.call(memory, Call::Arrive(rng.byte()))?,
             2 => pair.call(memory, Call::Take)?,
+            3 | 4 => {
+                let (milliseconds, room) = (milliseconds(rng), rng.pick(&[0, 1, 2, 3, 100]));
+                pair.call(memory, Call::Time { milliseconds, room })?
+            }
             _ => {
                 let size = rng.pick(&[0, 1, 3, 30]).min(left.len());
                 pair.call(memory, Call::Feed { piece: &left[..size], room: rng.pick(&[0, 1, 2, 3, 100]) })?

@@ -2,24 +2,34 @@
 
 use crate::memory::Memory;
 use crate::record::{encode_queue, encode_state};
-use reference::commands::COMMANDS;
-use reference::files::{Files, DIRECTORY, FILES_MOST, STORE_LEAST, STORE_MOST};
+use reference::commands::{arguments, COMMANDS};
+use reference::directory::{Record, DIRECTORY, KINDS, RECORDS_MOST};
+use reference::edition::{EDITIONS, NEWER, NUMBER_MOST};
+use reference::files::{Files, STORE_LEAST, STORE_MOST};
 use reference::generator::EDGES;
 use reference::generator_files::{bad_bitmap, bad_font, good_bitmap, good_font};
+use reference::generator_start::put_records;
+use reference::generator_uploads::NUMBERS;
 use reference::glass::{glass_bytes, HEIGHTS};
 use reference::prng::Prng;
 use reference::queue::{Queue, RING};
-use reference::state::{Bar, Gathering, Inline, Kind, State, Strip, Upload};
+use reference::state::{Bar, Gathering, Inline, Sort, State, Strip, Upload};
 
-/// Of either height.
+/// Of either height and either edition.
 pub fn memory(rng: &mut Prng) -> Memory {
     let height = rng.pick(&HEIGHTS);
     memory_of(rng, height)
 }
 
+/// Of either edition.
 pub fn memory_of(rng: &mut Prng, height: u8) -> Memory {
+    let edition = rng.pick(&EDITIONS);
+    memory_with(rng, height, edition)
+}
+
+pub fn memory_with(rng: &mut Prng, height: u8, edition: u8) -> Memory {
     let store = store(rng, height);
-    let state = encode_state(&state(rng, height, &store)).to_vec();
+    let state = encode_state(&state(rng, height, edition, &store)).to_vec();
     Memory { glass: bytes(rng, glass_bytes(height)), store, state, queue: encode_queue(&queue(rng)).to_vec() }
 }
 
@@ -40,7 +50,16 @@ pub fn edge(rng: &mut Prng) -> u8 {
     }
 }
 
-/// Short stores most often, since long ones cost time and show little more.
+/// Any number of two bytes, most often one at an edge.
+pub fn any_number(rng: &mut Prng) -> u16 {
+    if rng.percent(70) {
+        rng.pick(&NUMBERS)
+    } else {
+        rng.next() as u16
+    }
+}
+
+/// Short stores most often, since long ones cost time and show little more; records of all kinds among each other.
 pub fn store(rng: &mut Prng, height: u8) -> Vec<u8> {
     let length = match rng.below(20) {
         0 => STORE_MOST,
@@ -56,44 +75,54 @@ pub fn store(rng: &mut Prng, height: u8) -> Vec<u8> {
     }
     store[..DIRECTORY].fill(0);
     let most = rng.pick(&[0, 1, 3, 6, 6, 20, 62, 63]);
-    let (mut record, mut at) = (0, DIRECTORY);
-    while record < 4 * most.min(FILES_MOST) && at < length {
-        let kind = rng.between(1, 2) as u8;
-        let number = if rng.percent(70) { rng.below(most + 2) as u8 } else { edge(rng) };
-        let twice = store[..record].chunks(4).any(|r| r[..2] == [kind, number]);
-        let file = file(rng, height, kind, length - at, most);
-        if twice || (kind, number) == (1, 1) || at + file.len() > length {
+    // how many in a hundred are of the newer kinds
+    let newer = rng.pick(&[0, 10, 50, 50, 100]);
+    let mut records: Vec<Record> = Vec::new();
+    let (mut held, mut at) = (0, DIRECTORY);
+    while records.len() < most && at < length {
+        let from = if rng.percent(newer) { 2 } else { 0 };
+        let kind = KINDS[from + rng.below(2)];
+        let mut number = if rng.percent(70) { rng.below(most + 2) as u16 } else { edge(rng) as u16 };
+        if kind.edition() == NEWER && rng.percent(30) {
+            number = any_number(rng).min(NUMBER_MOST);
+        }
+        let file = file(rng, height, kind.sort(), length - at, most);
+        let record = Record { kind, number, size: file.len() as u32 };
+        let twice = records.iter().any(|other| other.kind.sort() == kind.sort() && other.number == number);
+        let passes = at + file.len() > length || held + kind.record_bytes() > RECORDS_MOST;
+        if twice || record.broken() || passes {
             // some numbers are taken: try the next, but not for ever
             if rng.percent(10) {
                 break;
             }
             continue;
         }
-        store[record..record + 4].copy_from_slice(&[kind, number, file.len() as u8, (file.len() / 256) as u8]);
         store[at..at + file.len()].copy_from_slice(&file);
-        record += 4;
+        records.push(record);
+        held += kind.record_bytes();
         at += file.len();
     }
+    put_records(&mut store, &records);
     assert!(Files::read(&store).is_some());
     store
 }
 
-fn file(rng: &mut Prng, height: u8, kind: u8, room: usize, most: usize) -> Vec<u8> {
+fn file(rng: &mut Prng, height: u8, sort: Sort, room: usize, most: usize) -> Vec<u8> {
     if most > 20 && rng.percent(90) {
         // many files must be small ones to fit
         let count = rng.between(1, 9);
         return bytes(rng, count);
     }
-    match (rng.below(8), kind) {
+    match (rng.below(8), sort) {
         (0, _) => bytes(rng, room),
         (1, _) => {
             let count = rng.between(1, 60);
             bytes(rng, count)
         }
-        (2, 1) => bad_font(rng, height),
-        (2, _) => bad_bitmap(rng),
-        (_, 1) => good_font(rng, height),
-        _ => good_bitmap(rng),
+        (2, Sort::Font) => bad_font(rng, height),
+        (2, Sort::Bitmap) => bad_bitmap(rng),
+        (_, Sort::Font) => good_font(rng, height),
+        (_, Sort::Bitmap) => good_bitmap(rng),
     }
 }
 
@@ -127,12 +156,17 @@ fn strip(rng: &mut Prng, height: u8) -> Strip {
     Strip { x1, y1, x2, y2 }
 }
 
-pub fn state(rng: &mut Prng, height: u8, store: &[u8]) -> State {
+pub fn state(rng: &mut Prng, height: u8, edition: u8, store: &[u8]) -> State {
     let files = Files::read(store).expect("a good directory");
-    let mut state = State::at_start(height);
+    let mut state = State::at_start(height, edition);
     let text = &mut state.text;
     let known = files.list.get(rng.below(files.list.len() + 1)).map_or(1, |file| file.number);
-    text.font = if rng.percent(80) { known } else { edge(rng) };
+    text.font = match rng.below(10) {
+        0 => any_number(rng),
+        // alike in its low byte
+        1 | 2 => known ^ 256,
+        _ => known,
+    };
     (text.left, text.top) = (edge(rng), edge(rng));
     if rng.percent(60) {
         (text.left, text.top) = (rng.below(9) as u8, rng.below(9) as u8);
@@ -165,7 +199,8 @@ fn under_way(rng: &mut Prng, state: &mut State, files: &Files) {
     match rng.below(6) {
         0 => state.gathering = Some(Gathering { bytes: Vec::new() }),
         1 => {
-            let (code, needs) = rng.pick(&COMMANDS);
+            let (code, _) = rng.pick(&COMMANDS);
+            let needs = arguments(code, state.edition).expect("a known code");
             if needs > 0 {
                 let got = rng.below(needs);
                 let mut bytes = vec![code];
@@ -181,9 +216,9 @@ fn under_way(rng: &mut Prng, state: &mut State, files: &Files) {
             state.inline = Some(inline);
         }
         3 => {
-            let kind = if rng.percent(50) { Kind::Font } else { Kind::Bitmap };
+            let sort = if rng.percent(50) { Sort::Font } else { Sort::Bitmap };
             let known = files.list.get(rng.below(files.list.len() + 1)).map_or(1, |file| file.number);
-            let number = if rng.percent(20) { known } else { edge(rng) };
+            let number = [known, any_number(rng), edge(rng) as u16, edge(rng) as u16, edge(rng) as u16][rng.below(5)];
             let unused = files.unused();
             let size = match rng.below(6) {
                 0 => unused,
@@ -194,7 +229,8 @@ fn under_way(rng: &mut Prng, state: &mut State, files: &Files) {
             let size = size.clamp(1, 65535);
             let stored = [0, size - 1, rng.below(size)][rng.below(3)] as u16;
             let echoed = rng.percent(50).then(|| edge(rng));
-            state.upload = Some(Upload { kind, number, size: size as u16, stored, echoed });
+            let waited = [0, 1, 255, 256, 2098, 2099, rng.below(2100) as u16][rng.below(7)];
+            state.upload = Some(Upload { sort, number, size: size as u16, stored, echoed, waited });
         }
         _ => {}
     }

@@ -1,9 +1,9 @@
 //! The two records as bytes. A record is sound exactly when it is the encoding of a sound state or queue.
 
 use reference::queue::{Queue, RING};
-use reference::state::{Bar, Gathering, Inline, Kind, Lent, State, Strip, Text, Upload};
+use reference::state::{Bar, Gathering, Inline, Lent, Sort, State, Strip, Text, Upload};
 
-pub const STATE_BYTES: usize = 202;
+pub const STATE_BYTES: usize = 207;
 pub const QUEUE_BYTES: usize = 85;
 
 pub const PHASE: usize = 0;
@@ -12,17 +12,20 @@ pub const GOT: usize = 2;
 pub const ARGUMENTS: usize = 3;
 pub const INLINE: usize = 9;
 pub const UPLOAD: usize = 15;
-pub const TEXT: usize = 23;
-pub const DRAWING: usize = 34;
-pub const FLOW: usize = 37;
-pub const REFUSALS: usize = 40;
-pub const HEIGHT: usize = 43;
-pub const BARS: usize = 44;
-pub const STRIPS: usize = 156;
-pub const SERIAL: usize = 196;
-pub const CONTRAST: usize = 199;
-pub const BACKLIGHT: usize = 200;
-pub const MINUTES: usize = 201;
+/// Its sum of milliseconds, low byte first.
+pub const WAITED: usize = 24;
+pub const TEXT: usize = 26;
+pub const DRAWING: usize = 38;
+pub const FLOW: usize = 41;
+pub const REFUSALS: usize = 44;
+pub const HEIGHT: usize = 47;
+pub const EDITION: usize = 48;
+pub const BARS: usize = 49;
+pub const STRIPS: usize = 161;
+pub const SERIAL: usize = 201;
+pub const CONTRAST: usize = 204;
+pub const BACKLIGHT: usize = 205;
+pub const MINUTES: usize = 206;
 
 pub const PLACE: usize = 80;
 pub const HELD: usize = 81;
@@ -42,9 +45,10 @@ pub fn encode_state(state: &State) -> [u8; STATE_BYTES] {
     let mut r = [0; STATE_BYTES];
     encode_phase(state, &mut r);
     let text = &state.text;
-    let [x_low, x_high] = split(text.x);
+    let ([font_low, font_high], [x_low, x_high]) = (split(text.font), split(text.x));
     r[TEXT..DRAWING].copy_from_slice(&[
-        text.font,
+        font_low,
+        font_high,
         x_low,
         x_high,
         u8::try_from(text.y).expect("a text row of one byte"),
@@ -61,6 +65,7 @@ pub fn encode_state(state: &State) -> [u8; STATE_BYTES] {
     r[REFUSALS..REFUSALS + 2].copy_from_slice(&split(state.refusals));
     r[REFUSALS + 2] = state.last_refusal;
     r[HEIGHT] = state.height;
+    r[EDITION] = state.edition;
     for (bar, bytes) in state.bars.iter().zip(r[BARS..STRIPS].chunks_mut(7)) {
         if let Some(b) = bar {
             bytes.copy_from_slice(&[1, b.side, b.x1, b.y1, b.x2, b.y2, b.value]);
@@ -97,13 +102,14 @@ fn encode_phase(state: &State, r: &mut [u8; STATE_BYTES]) {
     }
     if let Some(u) = &state.upload {
         r[PHASE] = 4;
-        let kind = match u.kind {
-            Kind::Font => 1,
-            Kind::Bitmap => 2,
+        r[UPLOAD] = match u.sort {
+            Sort::Font => 1,
+            Sort::Bitmap => 2,
         };
-        let ([size_low, size_high], [low, high]) = (split(u.size), split(u.stored));
-        let (waiting, byte) = (u.echoed.is_some() as u8, u.echoed.unwrap_or(0));
-        r[UPLOAD..TEXT].copy_from_slice(&[kind, u.number, size_low, size_high, low, high, waiting, byte]);
+        let words = [u.number, u.size, u.stored].map(split);
+        r[UPLOAD + 1..UPLOAD + 7].copy_from_slice(words.as_flattened());
+        (r[UPLOAD + 7], r[UPLOAD + 8]) = (u.echoed.is_some() as u8, u.echoed.unwrap_or(0));
+        r[WAITED..TEXT].copy_from_slice(&split(u.waited));
     }
 }
 
@@ -156,6 +162,7 @@ pub fn decode_state(record: &[u8]) -> Option<State> {
     };
     let state = State {
         height: r[HEIGHT],
+        edition: r[EDITION],
         gathering: decode_gathering(r)?,
         inline: decode_inline(r)?,
         upload: decode_upload(r)?,
@@ -180,16 +187,16 @@ pub fn decode_state(record: &[u8]) -> Option<State> {
 
 fn decode_text(t: &[u8]) -> Option<Text> {
     Some(Text {
-        font: t[0],
-        x: join(t[1], t[2]),
-        y: t[3] as u16,
-        left: t[4],
-        top: t[5],
-        char_space: t[6],
-        line_space: t[7],
-        scroll_row: t[8],
-        wrap: flag(t[9])?,
-        scroll: flag(t[10])?,
+        font: join(t[0], t[1]),
+        x: join(t[2], t[3]),
+        y: t[4] as u16,
+        left: t[5],
+        top: t[6],
+        char_space: t[7],
+        line_space: t[8],
+        scroll_row: t[9],
+        wrap: flag(t[10])?,
+        scroll: flag(t[11])?,
     })
 }
 
@@ -225,18 +232,19 @@ fn decode_upload(r: &[u8; STATE_BYTES]) -> Option<Option<Upload>> {
         unused(u)?;
         return Some(None);
     }
-    let kind = match u[0] {
-        1 => Kind::Font,
-        2 => Kind::Bitmap,
+    let sort = match u[0] {
+        1 => Sort::Font,
+        2 => Sort::Bitmap,
         _ => return None,
     };
-    let echoed = if flag(u[6])? {
-        Some(u[7])
+    let echoed = if flag(u[7])? {
+        Some(u[8])
     } else {
-        unused(&u[7..])?;
+        unused(&u[8..9])?;
         None
     };
-    Some(Some(Upload { kind, number: u[1], size: join(u[2], u[3]), stored: join(u[4], u[5]), echoed }))
+    let (number, size, stored) = (join(u[1], u[2]), join(u[3], u[4]), join(u[5], u[6]));
+    Some(Some(Upload { sort, number, size, stored, echoed, waited: join(u[9], u[10]) }))
 }
 
 pub fn encode_queue(queue: &Queue) -> [u8; QUEUE_BYTES] {
@@ -270,12 +278,17 @@ pub fn state_place(place: usize) -> String {
         ARGUMENTS..INLINE => format!("argument {}", place - ARGUMENTS),
         INLINE..UPLOAD => format!("in line {}", field(&["x1", "y1", "x2", "y2", "done low", "done high"], INLINE)),
         UPLOAD..TEXT => {
-            let names = ["kind", "number", "size low", "size high", "stored low", "stored high", "waiting", "byte"];
+            #[rustfmt::skip]
+            let names = [
+                "sort", "number low", "number high", "size low", "size high", "stored low", "stored high", "waiting",
+                "byte", "waited low", "waited high",
+            ];
             format!("upload {}", field(&names, UPLOAD))
         }
         TEXT..DRAWING => {
+            #[rustfmt::skip]
             let names = [
-                "font", "x low", "x high", "y", "left", "top", "char space", "line space", "scroll row", "wrap", "scroll",
+                "font low", "font high", "x low", "x high", "y", "left", "top", "char space", "line space", "scroll row", "wrap", "scroll",
             ];
             format!("text {}", field(&names, TEXT))
         }
@@ -283,6 +296,7 @@ pub fn state_place(place: usize) -> String {
         FLOW..REFUSALS => field(&["flow on", "flow full", "flow empty"], FLOW),
         REFUSALS..HEIGHT => field(&["refusals low", "refusals high", "last refusal"], REFUSALS),
         HEIGHT => "height".into(),
+        EDITION => "edition".into(),
         BARS..STRIPS => {
             let names = ["on", "kind", "x1", "y1", "x2", "y2", "value"];
             format!("bar {} {}", (place - BARS) / 7, names[(place - BARS) % 7])

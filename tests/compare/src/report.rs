@@ -3,7 +3,7 @@
 use crate::compare::{Call, Failure, Pair};
 use crate::memory::Memory;
 use crate::record::{decode_queue, decode_state};
-use reference::files::DIRECTORY;
+use reference::directory::DIRECTORY;
 use reference::shrink::shrink;
 
 /// Pieces above this are not shrunk: each try would cost too much.
@@ -38,13 +38,13 @@ fn narrow(pair: &mut Pair, failure: &Failure) -> Option<Failure> {
         return None;
     }
     let mut last = None;
-    shrink(&failure.piece, &mut |piece| {
-        match pair.call(&mut failure.before.clone(), Call::Feed { piece, room: failure.room }) {
-            Ok(_) => false,
-            Err(found) => {
-                last = Some(*found);
-                true
-            }
+    shrink(&failure.piece, &mut |piece| match pair
+        .call(&mut failure.before.clone(), Call::Feed { piece, room: failure.room })
+    {
+        Ok(_) => false,
+        Err(found) => {
+            last = Some(*found);
+            true
         }
     });
     last
@@ -58,7 +58,8 @@ fn one(failure: &Failure) -> String {
             format!("feed of {} bytes {:?}{end}, room {}", bytes.len(), &bytes[..bytes.len().min(64)], failure.room)
         }
         "arrive" => format!("arrive of {}", failure.byte),
-        "start" => format!("start with height {}", failure.height),
+        "start" => format!("start with {:?}", failure.given),
+        "time" => format!("time of {} milliseconds, room {}", failure.milliseconds, failure.room),
         name => name.into(),
     };
     format!("{what}: {}", failure.difference)

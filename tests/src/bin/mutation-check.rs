@@ -37,15 +37,13 @@ fn main() {
     for &mutant in ALL {
         let by_case: Vec<&str> = cases
             .iter()
-            .filter(|case| attempt(mutant, || listing_of_stream(&font, case.height, &case.input)) != Some(case.expected.clone()))
+            .filter(|case| attempt(mutant, || case.listing(&font)).as_ref() != Some(&case.expected))
             .map(|case| &case.name[..])
             .collect();
-        let by_check: Vec<&str> = checks
-            .iter()
-            .filter(|(_, check)| attempt(mutant, check).is_none())
-            .map(|(name, _)| &name[..])
-            .collect();
-        let by_scene = scenes.iter().filter(|(right, scene)| attempt(mutant, || trace(scene)).as_ref() != Some(right)).count();
+        let by_check: Vec<&str> =
+            checks.iter().filter(|(_, check)| attempt(mutant, check).is_none()).map(|(name, _)| &name[..]).collect();
+        let by_scene =
+            scenes.iter().filter(|(right, scene)| attempt(mutant, || trace(scene)).as_ref() != Some(right)).count();
         let by_stream = streams
             .iter()
             .filter(|(right, height, stream)| {

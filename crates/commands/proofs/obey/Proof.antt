@@ -1,8 +1,9 @@
-use mathlib.Core.Path.{refl, sym, ap}
-use Rattle.commands.proofs.Commands.{obeys-command, obeys-unknown}
-use Rattle.rules.specs.Files.{beginUpload}
+use mathlib.Core.Path.{refl}
+use Rattle.commands.proofs.Commands.{obeys-command, obeys-unknown, choose-as, show-as, upload-as, delete-as}
 use Rattle.rules.specs.Step.{obey}
 use Rattle.state.specs.declared.Command.the-variants.{Unknown, Clear, Home, SetPoint, SetPlace, WrapOn, WrapOff, ScrollOn, ScrollOff, ChooseFont, SetMetrics, SetColour, DrawPixel, DrawLine, ContinueLine, DrawFrame, FillRectangle, SetUpBar, WriteBar, SetUpStrip, ShiftStrip, ShowBitmap, DrawInline, UploadFont, UploadBitmap, DeleteFile, Purge, FlowOn, FlowOff, SetContrast, BacklightOn, BacklightOff, SetSerial}
+-- `obey` meets its contract.
+-- Assumes nothing.
 use borrow.Author.Needs.{needs}
 use Rattle.commands.proofs.obey.Statement.{statement}
 use Rattle.commands.proofs.obey.Tie as tie
@@ -76,8 +77,8 @@ set-scroll-requires-2 c κs = search needs
 enum-told-10 : tie.Need-enum-told-10
 enum-told-10 c = search needs
 
-array-read-choose-font : tie.Need-array-read-choose-font
-array-read-choose-font c = search needs
+first-number-requires : tie.Need-first-number-requires
+first-number-requires c κs = search needs
 
 choose-font-requires : tie.Need-choose-font-requires
 choose-font-requires c κs = search needs
@@ -265,14 +266,20 @@ shift-strip-requires c κs = search needs
 enum-told-22 : tie.Need-enum-told-22
 enum-told-22 c = search needs
 
+first-number-requires-2 : tie.Need-first-number-requires-2
+first-number-requires-2 c κs = search needs
+
+number-bytes-requires : tie.Need-number-bytes-requires
+number-bytes-requires c κs = search needs
+
 array-read-show-bitmap : tie.Need-array-read-show-bitmap
 array-read-show-bitmap c = search needs
 
+add-show-bitmap : tie.Need-add-show-bitmap
+add-show-bitmap c = search needs
+
 array-read-show-bitmap-2 : tie.Need-array-read-show-bitmap-2
 array-read-show-bitmap-2 c = search needs
-
-array-read-show-bitmap-3 : tie.Need-array-read-show-bitmap-3
-array-read-show-bitmap-3 c = search needs
 
 show-bitmap-requires : tie.Need-show-bitmap-requires
 show-bitmap-requires c κs = search needs
@@ -298,17 +305,11 @@ begin-inline-requires c κs = search needs
 enum-told-24 : tie.Need-enum-told-24
 enum-told-24 c = search needs
 
-array-read-begin-upload : tie.Need-array-read-begin-upload
-array-read-begin-upload c = search needs
+first-number-requires-3 : tie.Need-first-number-requires-3
+first-number-requires-3 c κs = search needs
 
-array-read-size-of : tie.Need-array-read-size-of
-array-read-size-of c = search needs
-
-array-read-size-of-2 : tie.Need-array-read-size-of-2
-array-read-size-of-2 c = search needs
-
-size-of-requires : tie.Need-size-of-requires
-size-of-requires c κs = search needs
+size-in-requires : tie.Need-size-in-requires
+size-in-requires c κs = search needs
 
 begin-upload-requires : tie.Need-begin-upload-requires
 begin-upload-requires c κs = search needs
@@ -316,17 +317,11 @@ begin-upload-requires c κs = search needs
 enum-told-25 : tie.Need-enum-told-25
 enum-told-25 c = search needs
 
-array-read-begin-upload-2 : tie.Need-array-read-begin-upload-2
-array-read-begin-upload-2 c = search needs
+first-number-requires-4 : tie.Need-first-number-requires-4
+first-number-requires-4 c κs = search needs
 
-array-read-size-of-3 : tie.Need-array-read-size-of-3
-array-read-size-of-3 c = search needs
-
-array-read-size-of-4 : tie.Need-array-read-size-of-4
-array-read-size-of-4 c = search needs
-
-size-of-requires-2 : tie.Need-size-of-requires-2
-size-of-requires-2 c κs = search needs
+size-in-requires-2 : tie.Need-size-in-requires-2
+size-in-requires-2 c κs = search needs
 
 begin-upload-requires-2 : tie.Need-begin-upload-requires-2
 begin-upload-requires-2 c κs = search needs
@@ -337,8 +332,8 @@ enum-told-26 c = search needs
 array-read-delete-file : tie.Need-array-read-delete-file
 array-read-delete-file c = search needs
 
-array-read-delete-file-2 : tie.Need-array-read-delete-file-2
-array-read-delete-file-2 c = search needs
+second-number-requires : tie.Need-second-number-requires
+second-number-requires c κs = search needs
 
 delete-file-requires : tie.Need-delete-file-requires
 delete-file-requires c κs = search needs
@@ -456,7 +451,7 @@ same-length-3 c = search needs
 
 returns-10 : tie.Need-returns-10
 unfolding obey
-returns-10 c = obeys-command (c .before .before .before .before .before .before .before .args .command) ChooseFont _ (search needs) (c .choose-font .ensures) (λ h g s p. refl) (λ h g s q. refl)
+returns-10 c = obeys-command (c .before .before .before .before .before .before .before .before .args .command) ChooseFont _ (search needs) (c .choose-font .ensures) (λ h g s p. refl) (λ h g s q. choose-as (c .before .before .before .before .before .before .before .before .args .config .edition) (c .before .before .before .before .before .before .before .before .args .t2) _ _ (c .before .first-number .ensures))
 
 returns-11 : tie.Need-returns-11
 unfolding obey
@@ -543,7 +538,7 @@ same-length-16 c = search needs
 
 returns-22 : tie.Need-returns-22
 unfolding obey
-returns-22 c = obeys-command (c .before .before .before .before .before .before .before .before .before .before .args .command) ShowBitmap _ (search needs) (c .before .before .show-bitmap .ensures) (λ h g s p. refl) (λ h g s q. refl)
+returns-22 c = obeys-command (c .before .before .before .before .before .before .before .before .before .before .before .before .args .command) ShowBitmap _ (search needs) (c .before .before .show-bitmap .ensures) (λ h g s p. refl) (λ h g s q. show-as (c .before .before .before .before .before .before .before .before .before .before .before .before .args .config .edition) (c .before .before .before .before .before .before .before .before .before .before .before .before .args .t2) _ _ _ (c .before .before .before .before .before .before .first-number2 .ensures) (c .before .before .before .before .before .number-bytes .ensures .0))
 
 returns-23 : tie.Need-returns-23
 unfolding obey
@@ -554,21 +549,21 @@ same-length-17 c = search needs
 
 returns-24 : tie.Need-returns-24
 unfolding obey
-returns-24 c = obeys-command (c .before .before .before .before .before .before .before .before .args .command) UploadFont _ (search needs) (c .begin-upload .ensures) (λ h g s p. refl) (λ h g s q. ap (beginUpload _ 1 _) (sym (c .before .size-of .ensures)))
+returns-24 c = obeys-command (c .before .before .before .before .before .before .before .before .before .args .command) UploadFont _ (search needs) (c .begin-upload .ensures) (λ h g s p. refl) (λ h g s q. upload-as (c .before .before .before .before .before .before .before .before .before .args .config .edition) (c .before .before .before .before .before .before .before .before .before .args .t2) _ _ 1 _ (c .before .before .before .first-number3 .ensures) (c .before .before .size-in .ensures))
 
 same-length-18 : tie.Need-same-length-18
 same-length-18 c = search needs
 
 returns-25 : tie.Need-returns-25
 unfolding obey
-returns-25 c = obeys-command (c .before .before .before .before .before .before .before .before .args .command) UploadBitmap _ (search needs) (c .begin-upload2 .ensures) (λ h g s p. refl) (λ h g s q. ap (beginUpload _ 2 _) (sym (c .before .size-of2 .ensures)))
+returns-25 c = obeys-command (c .before .before .before .before .before .before .before .before .before .args .command) UploadBitmap _ (search needs) (c .begin-upload2 .ensures) (λ h g s p. refl) (λ h g s q. upload-as (c .before .before .before .before .before .before .before .before .before .args .config .edition) (c .before .before .before .before .before .before .before .before .before .args .t2) _ _ 2 _ (c .before .before .before .first-number4 .ensures) (c .before .before .size-in2 .ensures))
 
 same-length-19 : tie.Need-same-length-19
 same-length-19 c = search needs
 
 returns-26 : tie.Need-returns-26
 unfolding obey
-returns-26 c = obeys-command (c .before .before .before .before .before .before .before .before .before .args .command) DeleteFile _ (search needs) (c .before .before .delete-file .ensures) (λ h g s p. refl) (λ h g s q. refl)
+returns-26 c = obeys-command (c .before .before .before .before .before .before .before .before .before .before .args .command) DeleteFile _ (search needs) (c .before .before .delete-file .ensures) (λ h g s p. refl) (λ h g s q. delete-as (c .before .before .before .before .before .before .before .before .before .before .args .config .edition) (c .before .before .before .before .before .before .before .before .before .before .args .t2) _ _ _ (c .before .before .before .second-number .ensures))
 
 same-length-20 : tie.Need-same-length-20
 same-length-20 c = search needs
@@ -640,7 +635,7 @@ obey-spec =
     enum-told-9
     set-scroll-requires-2
     enum-told-10
-    array-read-choose-font
+    first-number-requires
     choose-font-requires
     enum-told-11
     array-read-set-metrics
@@ -703,9 +698,11 @@ obey-spec =
     array-read-shift-strip
     shift-strip-requires
     enum-told-22
+    first-number-requires-2
+    number-bytes-requires
     array-read-show-bitmap
+    add-show-bitmap
     array-read-show-bitmap-2
-    array-read-show-bitmap-3
     show-bitmap-requires
     enum-told-23
     array-read-begin-inline
@@ -714,20 +711,16 @@ obey-spec =
     array-read-begin-inline-4
     begin-inline-requires
     enum-told-24
-    array-read-begin-upload
-    array-read-size-of
-    array-read-size-of-2
-    size-of-requires
+    first-number-requires-3
+    size-in-requires
     begin-upload-requires
     enum-told-25
-    array-read-begin-upload-2
-    array-read-size-of-3
-    array-read-size-of-4
-    size-of-requires-2
+    first-number-requires-4
+    size-in-requires-2
     begin-upload-requires-2
     enum-told-26
     array-read-delete-file
-    array-read-delete-file-2
+    second-number-requires
     delete-file-requires
     enum-told-27
     array-read-purge

@@ -7,10 +7,10 @@ use Rattle.directory.proofs.find.Statement.{statement}
 use Rattle.directory.proofs.find.Tie as tie
 
 abbrev Inv-loop : tie.InvT-loop
-Inv-loop store kind number p₀ start₀ p start = Finding store kind number p start
+Inv-loop store sort number p₀ start₀ p start = Finding store sort number p start
 
 abbrev μ-loop : tie.MeasureT-loop
-μ-loop store kind number p₀ start₀ p start = 256 - p
+μ-loop store sort number p₀ start₀ p start = 256 - p
 
 loop-holds : tie.Need-loop-holds Inv-loop μ-loop
 loop-holds c = finding-start _ _ _
@@ -22,7 +22,7 @@ returns : tie.Need-returns Inv-loop μ-loop
 returns c = finding-none _ _ _ _ _ _ (c .before .before .loop .inv) (c .before .step-at .ensures) (search needs)
 
 entry-at-requires : tie.Need-entry-at-requires Inv-loop μ-loop
-entry-at-requires c κs = omega (arith, stands _ _ _ (c .before .step-at .ensures) (c .if1 .left))
+entry-at-requires c κs = let w = stands _ _ _ (c .before .step-at .ensures) (c .if1 .left) in (w .same, w .least, w .fits)
 
 is-file-requires : tie.Need-is-file-requires Inv-loop μ-loop
 is-file-requires c κs = search needs

@@ -3,16 +3,15 @@ use Prim.Native.Nat.{_-_}
 use native.Mathlib.Omega.{arith}
 use borrow.Author.Tests.{not-true, not-false}
 use Rattle.directory.proofs.Laws.{stands}
-use Rattle.directory.proofs.Seen.{file-numbered}
-use Rattle.directory.proofs.Walks.{Surveying, short, survey-start, survey-end, survey-unfair, survey-twice, survey-more}
+use Rattle.directory.proofs.Walks.{Surveying, short, survey-start, survey-end, survey-unfair, survey-number, survey-twice, survey-more}
 use Rattle.directory.proofs.is_valid.Statement.{statement}
 use Rattle.directory.proofs.is_valid.Tie as tie
 
 abbrev Inv-loop : tie.InvT-loop
-Inv-loop store seen₀ p₀ count₀ used₀ seen p count used = Surveying store seen p count used
+Inv-loop store seen₀ p₀ used₀ seen p used = Surveying store seen p used
 
 abbrev μ-loop : tie.MeasureT-loop
-μ-loop store seen₀ p₀ count₀ used₀ seen p count used = 256 - p
+μ-loop store seen₀ p₀ used₀ seen p used = 256 - p
 
 returns : tie.Need-returns Inv-loop μ-loop
 returns c = short _ (search needs)
@@ -27,19 +26,19 @@ closes-requires : tie.Need-closes-requires Inv-loop μ-loop
 closes-requires c κs = (search needs, omega (arith, c .before .before .loop .inv .counting .small, c .before .before .loop .inv .counting .within))
 
 returns-2 : tie.Need-returns-2 Inv-loop μ-loop
-returns-2 c = survey-end _ _ _ _ _ _ (c .before .before .before .loop .inv) (c .before .before .step-at .ensures) _ (search needs) (c .closes .ensures)
+returns-2 c = survey-end _ _ _ _ _ (c .before .before .before .loop .inv) (c .before .before .step-at .ensures) _ (search needs) (c .closes .ensures)
 
 whole-entry-requires : tie.Need-whole-entry-requires Inv-loop μ-loop
-whole-entry-requires c κs = omega (arith, stands _ _ _ (c .before .step-at .ensures) (c .if2 .left), c .before .before .before .if1 .left)
+whole-entry-requires c κs = let w = stands _ _ _ (c .before .step-at .ensures) (c .if2 .left) in (w .same, w .least, omega (arith, w .fits, c .before .before .before .if1 .left))
 
 is-fair-requires : tie.Need-is-fair-requires Inv-loop μ-loop
 is-fair-requires c κs = search needs
 
 returns-3 : tie.Need-returns-3 Inv-loop μ-loop
-returns-3 c = survey-unfair _ _ _ _ _ _ (c .before .before .before .before .before .loop .inv) (c .before .before .before .before .step-at .ensures) (c .before .before .before .if2 .left) _ (c .before .before .whole-entry .ensures .0) _ (c .before .is-fair .ensures) (not-true _ (c .if3 .taken))
+returns-3 c = survey-unfair _ _ _ _ _ (c .before .before .before .before .before .loop .inv) (c .before .before .before .before .step-at .ensures) (c .before .before .before .if2 .left) _ (c .before .before .whole-entry .ensures .0) _ (c .before .is-fair .ensures) (not-true _ (c .if3 .taken))
 
 slot-requires : tie.Need-slot-requires Inv-loop μ-loop
-slot-requires c κs = let a = file-numbered _ (λ i. c .before .before .before .before .before .before .before .shared-slice-known .given i .fits) _ _ _ (c .before .before .before .before .step-at .ensures) (c .before .before .before .if2 .left) (c .before .before .whole-entry .ensures .0) in (a .least, a .most)
+slot-requires c κs = survey-number _ _ _ _ _ (c .before .before .before .before .before .loop .inv) (c .before .before .before .before .step-at .ensures) (c .before .before .before .if2 .left) _ (c .before .before .whole-entry .ensures .0) _ (c .before .is-fair .ensures) (not-false _ (c .if3 .left))
 
 array-read-if4 : tie.Need-array-read-if4 Inv-loop μ-loop
 array-read-if4 c = search needs
@@ -54,7 +53,7 @@ shr-if4 : tie.Need-shr-if4 Inv-loop μ-loop
 shr-if4 c = search needs
 
 returns-4 : tie.Need-returns-4 Inv-loop μ-loop
-returns-4 c = survey-twice _ _ _ _ _ _ (c .before .before .before .before .before .before .before .loop .inv) (c .before .before .before .before .before .before .step-at .ensures) (c .before .before .before .before .before .if2 .left) _ (c .before .before .before .before .whole-entry .ensures .0) _ (c .before .before .before .is-fair .ensures) (not-false _ (c .before .before .if3 .left)) _ (c .before .slot .ensures .0) (search needs)
+returns-4 c = survey-twice _ _ _ _ _ (c .before .before .before .before .before .before .before .loop .inv) (c .before .before .before .before .before .before .step-at .ensures) (c .before .before .before .before .before .if2 .left) _ (c .before .before .before .before .whole-entry .ensures .0) _ (c .before .before .before .is-fair .ensures) (not-false _ (c .before .before .if3 .left)) _ (c .before .slot .ensures .0) (search needs)
 
 array-read-seen : tie.Need-array-read-seen Inv-loop μ-loop
 array-read-seen c = search needs
@@ -71,9 +70,6 @@ array-write-seen c = search needs
 add-used : tie.Need-add-used Inv-loop μ-loop
 add-used c = omega (arith, c .before .before .before .before .before .before .before .before .loop .inv .counting .small, c .before .before .before .before .before .before .before .before .loop .inv .counting .within, c .before .before .before .before .before .whole-entry .ensures .1)
 
-add-count : tie.Need-add-count Inv-loop μ-loop
-add-count c = omega (arith, c .before .before .before .before .before .before .before .before .loop .inv .counting .few, c .before .before .before .before .before .before .before .before .loop .inv .counting .within)
-
 add-p : tie.Need-add-p Inv-loop μ-loop
 add-p c = omega (arith, stands _ _ _ (c .before .before .before .before .before .before .before .step-at .ensures) (c .before .before .before .before .before .before .if2 .left))
 
@@ -81,7 +77,7 @@ loop-less : tie.Need-loop-less Inv-loop μ-loop
 loop-less c = omega (arith, stands _ _ _ (c .before .before .before .before .before .before .before .step-at .ensures) (c .before .before .before .before .before .before .if2 .left))
 
 loop-again : tie.Need-loop-again Inv-loop μ-loop
-loop-again c = survey-more _ _ _ _ _ _ (c .before .before .before .before .before .before .before .before .loop .inv) (c .before .before .before .before .before .before .before .step-at .ensures) (c .before .before .before .before .before .before .if2 .left) _ (c .before .before .before .before .before .whole-entry .ensures .0) _ (c .before .before .before .before .is-fair .ensures) (not-false _ (c .before .before .before .if3 .left)) _ (c .before .before .slot .ensures .0) (search needs) (λ i. c .before .before .before .before .before .before .before .before .before .before .shared-slice-known .given i .fits) (c .before .before .before .before .before .whole-entry .ensures .1)
+loop-again c = survey-more _ _ _ _ _ (c .before .before .before .before .before .before .before .before .loop .inv) (c .before .before .before .before .before .before .before .step-at .ensures) (c .before .before .before .before .before .before .if2 .left) _ (c .before .before .before .before .before .whole-entry .ensures .0) _ (c .before .before .before .before .is-fair .ensures) (not-false _ (c .before .before .before .if3 .left)) _ (c .before .before .slot .ensures .0) (search needs) (c .before .before .before .before .before .whole-entry .ensures .1)
 
 pub is-valid-spec : {M : Type 1} → statement M
 is-valid-spec =
@@ -108,7 +104,6 @@ is-valid-spec =
     shr-seen
     array-write-seen
     add-used
-    add-count
     add-p
     loop-less
     loop-again)

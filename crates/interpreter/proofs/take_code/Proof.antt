@@ -1,6 +1,8 @@
 use mathlib.Core.Path.{refl}
 use Rattle.interpreter.proofs.Phases.{code-gathers, code-obeyed}
 use Rattle.outcome.proofs.Laws.{obeys-done, done-with}
+-- `take_code` meets its contract.
+-- Assumes nothing.
 use borrow.Author.Needs.{needs}
 use Rattle.interpreter.proofs.take_code.Statement.{statement}
 use Rattle.interpreter.proofs.take_code.Tie as tie
@@ -27,7 +29,7 @@ same-length-3 : tie.Need-same-length-3
 same-length-3 c = search needs
 
 returns : tie.Need-returns
-returns c = code-obeyed _ _ _ (c .before .before .before .before .before .before .before .before .before .before .before .before .before .command-of .ensures) (c .before .before .before .before .before .before .before .before .before .before .before .before .arguments-of .ensures) _ (search needs) (c .before .before .before .before .before .before .before .before .before .before .in-phase .ensures) (c .before .before .before .before .before .before .obey .ensures)
+returns c = code-obeyed _ _ _ (c .before .before .before .before .before .before .before .before .before .before .before .before .before .command-of .ensures) _ (c .before .before .before .before .before .before .before .before .before .before .before .before .arguments-of .ensures) (search needs) (c .before .before .before .before .before .before .before .before .before .before .in-phase .ensures) (c .before .before .before .before .before .before .obey .ensures)
 
 in-phase-requires-2 : tie.Need-in-phase-requires-2
 in-phase-requires-2 c κs = search needs
@@ -36,7 +38,7 @@ done-requires : tie.Need-done-requires
 done-requires c κs = search needs
 
 returns-2 : tie.Need-returns-2
-returns-2 c = obeys-done _ (done-with (c .before .in-phase2 .ensures) (c .done .ensures)) (λ p. refl) (λ h g s p. code-gathers _ _ _ (c .before .before .before .before .command-of .ensures) (c .before .before .before .arguments-of .ensures) _ (search needs))
+returns-2 c = obeys-done _ (done-with (c .before .in-phase2 .ensures) (c .done .ensures)) (λ p. refl) (λ h g s p. code-gathers _ _ _ (c .before .before .before .before .command-of .ensures) _ (c .before .before .before .arguments-of .ensures) (search needs))
 
 pub take-code-spec : {M : Type 1} → statement M
 take-code-spec =

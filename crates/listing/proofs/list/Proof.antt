@@ -5,6 +5,9 @@ use borrow.Author.Needs.{needs}
 use Rattle.listing.proofs.list.Statement.{statement}
 use Rattle.listing.proofs.list.Tie as tie
 
+cast-display-start : tie.Need-cast-display-start
+cast-display-start c = search needs
+
 slice-aggregate-display-start : tie.Need-slice-aggregate-display-start
 slice-aggregate-display-start c = search needs
 
@@ -57,6 +60,7 @@ pub list-spec : {M : Type 1} → statement M
 list-spec =
     tie.close
     (tie.spec
+    cast-display-start
     slice-aggregate-display-start
     slice-aggregate-display-start-2
     slice-aggregate-display-start-3

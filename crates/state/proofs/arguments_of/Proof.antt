@@ -1,78 +1,18 @@
 -- `arguments_of` meets its contract.
 -- Assumes nothing.
 use borrow.Author.Needs.{needs}
-use Rattle.state.specs.declared.Command.the-variants.{Unknown, Clear, Home, SetPoint, SetPlace, WrapOn, WrapOff, ScrollOn, ScrollOff, ChooseFont, SetMetrics, SetColour, DrawPixel, DrawLine, ContinueLine, DrawFrame, FillRectangle, SetUpBar, WriteBar, SetUpStrip, ShiftStrip, ShowBitmap, DrawInline, UploadFont, UploadBitmap, DeleteFile, Purge, FlowOn, FlowOff, SetContrast, BacklightOn, BacklightOff, SetSerial}
-use Rattle.state.proofs.Commands.{arguments-at}
+use Rattle.state.proofs.Commands.{newer-count, older-count}
 use Rattle.state.proofs.arguments_of.Statement.{statement}
 use Rattle.state.proofs.arguments_of.Tie as tie
 
+counts-of-requires : tie.Need-counts-of-requires
+counts-of-requires c κs = search needs
+
+returns : tie.Need-returns
+returns c = newer-count _ (c .before .before .args .command) _ (c .before .counts-of .ensures) (c .if1 .taken)
+
+returns-2 : tie.Need-returns-2
+returns-2 c = older-count _ (c .before .before .args .command) _ (c .before .counts-of .ensures) (c .if1 .left)
+
 pub arguments-of-spec : {M : Type 1} → statement M
-arguments-of-spec =
-    tie.close
-    (tie.spec
-    (λ c. search needs)
-    (λ c. search needs)
-    (λ c. search needs)
-    (λ c. search needs)
-    (λ c. search needs)
-    (λ c. search needs)
-    (λ c. search needs)
-    (λ c. search needs)
-    (λ c. search needs)
-    (λ c. search needs)
-    (λ c. search needs)
-    (λ c. search needs)
-    (λ c. search needs)
-    (λ c. search needs)
-    (λ c. search needs)
-    (λ c. search needs)
-    (λ c. search needs)
-    (λ c. search needs)
-    (λ c. search needs)
-    (λ c. search needs)
-    (λ c. search needs)
-    (λ c. search needs)
-    (λ c. search needs)
-    (λ c. search needs)
-    (λ c. search needs)
-    (λ c. search needs)
-    (λ c. search needs)
-    (λ c. search needs)
-    (λ c. search needs)
-    (λ c. search needs)
-    (λ c. search needs)
-    (λ c. search needs)
-    (λ c. search needs)
-    (λ c. arguments-at (c .before .before .args .command) Unknown (search needs))
-    (λ c. arguments-at (c .before .before .args .command) Clear (search needs))
-    (λ c. arguments-at (c .before .before .args .command) Home (search needs))
-    (λ c. arguments-at (c .before .before .args .command) SetPoint (search needs))
-    (λ c. arguments-at (c .before .before .args .command) SetPlace (search needs))
-    (λ c. arguments-at (c .before .before .args .command) WrapOn (search needs))
-    (λ c. arguments-at (c .before .before .args .command) WrapOff (search needs))
-    (λ c. arguments-at (c .before .before .args .command) ScrollOn (search needs))
-    (λ c. arguments-at (c .before .before .args .command) ScrollOff (search needs))
-    (λ c. arguments-at (c .before .before .args .command) ChooseFont (search needs))
-    (λ c. arguments-at (c .before .before .args .command) SetMetrics (search needs))
-    (λ c. arguments-at (c .before .before .args .command) SetColour (search needs))
-    (λ c. arguments-at (c .before .before .args .command) DrawPixel (search needs))
-    (λ c. arguments-at (c .before .before .args .command) DrawLine (search needs))
-    (λ c. arguments-at (c .before .before .args .command) ContinueLine (search needs))
-    (λ c. arguments-at (c .before .before .args .command) DrawFrame (search needs))
-    (λ c. arguments-at (c .before .before .args .command) FillRectangle (search needs))
-    (λ c. arguments-at (c .before .before .args .command) SetUpBar (search needs))
-    (λ c. arguments-at (c .before .before .args .command) WriteBar (search needs))
-    (λ c. arguments-at (c .before .before .args .command) SetUpStrip (search needs))
-    (λ c. arguments-at (c .before .before .args .command) ShiftStrip (search needs))
-    (λ c. arguments-at (c .before .before .args .command) ShowBitmap (search needs))
-    (λ c. arguments-at (c .before .before .args .command) DrawInline (search needs))
-    (λ c. arguments-at (c .before .before .args .command) UploadFont (search needs))
-    (λ c. arguments-at (c .before .before .args .command) UploadBitmap (search needs))
-    (λ c. arguments-at (c .before .before .args .command) DeleteFile (search needs))
-    (λ c. arguments-at (c .before .before .args .command) Purge (search needs))
-    (λ c. arguments-at (c .before .before .args .command) FlowOn (search needs))
-    (λ c. arguments-at (c .before .before .args .command) FlowOff (search needs))
-    (λ c. arguments-at (c .before .before .args .command) SetContrast (search needs))
-    (λ c. arguments-at (c .before .before .args .command) BacklightOn (search needs))
-    (λ c. arguments-at (c .before .before .args .command) BacklightOff (search needs))
-    (λ c. arguments-at (c .before .before .args .command) SetSerial (search needs)))
+arguments-of-spec = tie.close (tie.spec counts-of-requires returns returns-2)

@@ -1,5 +1,7 @@
+-- `delete_file` meets its contract.
+-- Assumes nothing.
 use mathlib.Core.Path.{refl}
-use Rattle.storage.proofs.Laws.{delete-20, delete-22, delete-chosen, delete-bitmap, delete-other}
+use Rattle.storage.proofs.Laws.{delete-20, delete-19, delete-22, delete-chosen, delete-bitmap, delete-other}
 use Rattle.outcome.proofs.Laws.{obeys-refused, obeys-done, done-with}
 use borrow.Author.Needs.{needs}
 use Rattle.storage.proofs.delete_file.Statement.{statement}
@@ -11,20 +13,26 @@ refused-requires c κs = search needs
 returns : tie.Need-returns
 returns c = obeys-refused 20 (c .refused .ensures) (λ h g s p. refl) (λ h g s p. delete-20 _ _ _ _ _ (search needs))
 
-add-kind : tie.Need-add-kind
-add-kind c = search needs
+refused-requires-2 : tie.Need-refused-requires-2
+refused-requires-2 c κs = search needs
+
+returns-2 : tie.Need-returns-2
+returns-2 c = obeys-refused 19 (c .refused2 .ensures) (λ h g s p. refl) (λ h g s p. delete-19 _ _ _ _ _ (search needs) (search needs))
+
+add-sort : tie.Need-add-sort
+add-sort c = search needs
 
 is-stored-requires : tie.Need-is-stored-requires
 is-stored-requires c κs = search needs
 
-refused-requires-2 : tie.Need-refused-requires-2
-refused-requires-2 c κs = search needs
+refused-requires-3 : tie.Need-refused-requires-3
+refused-requires-3 c κs = search needs
 
 same-length : tie.Need-same-length
 same-length c = search needs
 
-returns-2 : tie.Need-returns-2
-returns-2 c = obeys-refused 22 (c .refused2 .ensures) (λ h g s p. refl) (λ h g s p. delete-22 _ _ _ _ _ _ (search needs) (c .before .before .is-stored .ensures) (search needs))
+returns-3 : tie.Need-returns-3
+returns-3 c = obeys-refused 22 (c .refused3 .ensures) (λ h g s p. refl) (λ h g s p. delete-22 _ _ _ _ _ _ (search needs) (search needs) (c .before .before .is-stored .ensures) (search needs))
 
 delete-requires : tie.Need-delete-requires
 delete-requires c κs = search needs
@@ -35,8 +43,8 @@ done-requires c κs = search needs
 same-length-2 : tie.Need-same-length-2
 same-length-2 c = search needs
 
-returns-3 : tie.Need-returns-3
-returns-3 c = obeys-done _ (c .done .ensures) (λ p. refl) (λ h g s p. delete-bitmap _ _ _ _ _ _ _ (search needs) (c .before .before .before .before .before .before .before .is-stored .ensures) (search needs) (c .before .before .before .before .delete .ensures .1) (search needs))
+returns-4 : tie.Need-returns-4
+returns-4 c = obeys-done _ (c .done .ensures) (λ p. refl) (λ h g s p. delete-bitmap _ _ _ _ _ _ _ (search needs) (search needs) (c .before .before .before .before .before .before .before .is-stored .ensures) (search needs) (c .before .before .before .before .delete .ensures .1) (search needs))
 
 done-requires-2 : tie.Need-done-requires-2
 done-requires-2 c κs = search needs
@@ -44,8 +52,8 @@ done-requires-2 c κs = search needs
 same-length-3 : tie.Need-same-length-3
 same-length-3 c = search needs
 
-returns-4 : tie.Need-returns-4
-returns-4 c = obeys-done _ (c .done2 .ensures) (λ p. refl) (λ h g s p. delete-other _ _ _ _ _ _ _ (search needs) (c .before .before .before .before .before .before .before .before .before .before .is-stored .ensures) (search needs) (c .before .before .before .before .before .before .before .delete .ensures .1) (search needs) (search needs))
+returns-5 : tie.Need-returns-5
+returns-5 c = obeys-done _ (c .done2 .ensures) (λ p. refl) (λ h g s p. delete-other _ _ _ _ _ _ _ (search needs) (search needs) (c .before .before .before .before .before .before .before .before .before .before .is-stored .ensures) (search needs) (c .before .before .before .before .before .before .before .delete .ensures .1) (search needs) (search needs))
 
 put-text-requires : tie.Need-put-text-requires
 put-text-requires c κs = search needs
@@ -56,8 +64,8 @@ done-requires-3 c κs = search needs
 same-length-4 : tie.Need-same-length-4
 same-length-4 c = search needs
 
-returns-5 : tie.Need-returns-5
-returns-5 c = obeys-done _ (done-with (c .before .put-text .ensures) (c .done3 .ensures)) (λ p. refl) (λ h g s p. delete-chosen _ _ _ _ _ _ _ (search needs) (c .before .before .before .before .before .before .before .before .before .before .before .is-stored .ensures) (c .before .before .before .before .before .before .before .before .before .before .if2 .left) (c .before .before .before .before .before .before .before .before .delete .ensures .1) (search needs) (search needs))
+returns-6 : tie.Need-returns-6
+returns-6 c = obeys-done _ (done-with (c .before .put-text .ensures) (c .done3 .ensures)) (λ p. refl) (λ h g s p. delete-chosen _ _ _ _ _ _ _ (search needs) (c .before .before .before .before .before .before .before .before .before .before .before .before .before .if2 .left) (c .before .before .before .before .before .before .before .before .before .before .before .is-stored .ensures) (c .before .before .before .before .before .before .before .before .before .before .if3 .left) (c .before .before .before .before .before .before .before .before .delete .ensures .1) (search needs) (search needs))
 
 pub delete-file-spec : {M : Type 1} → statement M
 delete-file-spec =
@@ -65,19 +73,21 @@ delete-file-spec =
     (tie.spec
     refused-requires
     returns
-    add-kind
-    is-stored-requires
     refused-requires-2
-    same-length
     returns-2
+    add-sort
+    is-stored-requires
+    refused-requires-3
+    same-length
+    returns-3
     delete-requires
     done-requires
     same-length-2
-    returns-3
+    returns-4
     done-requires-2
     same-length-3
-    returns-4
+    returns-5
     put-text-requires
     done-requires-3
     same-length-4
-    returns-5)
+    returns-6)

@@ -1,3 +1,5 @@
+-- `upload_data` meets its contract.
+-- Assumes nothing.
 use mathlib.Core.Path.{refl}
 use Rattle.storage.proofs.Laws.{data-echoed, data-26, data-more, data-last}
 use Rattle.outcome.proofs.Laws.{obeys-refused, obeys-one, obeys-done, sending-with, done-with}
@@ -29,8 +31,8 @@ store-byte-requires c κs = search needs
 add-if3 : tie.Need-add-if3
 add-if3 c = search needs
 
-add-t21 : tie.Need-add-t21
-add-t21 c = search needs
+add-t22 : tie.Need-add-t22
+add-t22 c = search needs
 
 in-phase-requires-2 : tie.Need-in-phase-requires-2
 in-phase-requires-2 c κs = search needs
@@ -43,6 +45,9 @@ same-length c = search needs
 
 returns-3 : tie.Need-returns-3
 returns-3 c = obeys-done _ (done-with (c .before .in-phase2 .ensures) (c .done .ensures)) (λ p. refl) (λ h g s p. data-more _ _ _ _ _ _ _ _ _ _ _ (search needs) (search needs) (search needs) (c .before .before .before .before .before .store-byte .ensures))
+
+kind-of-requires : tie.Need-kind-of-requires
+kind-of-requires c κs = search needs
 
 append-requires : tie.Need-append-requires
 append-requires c κs = search needs
@@ -57,7 +62,7 @@ same-length-2 : tie.Need-same-length-2
 same-length-2 c = search needs
 
 returns-4 : tie.Need-returns-4
-returns-4 c = obeys-done _ (done-with (c .before .in-phase3 .ensures) (c .done2 .ensures)) (λ p. refl) (λ h g s p. data-last _ _ _ _ _ _ _ _ _ _ _ _ (c .before .before .before .before .before .before .before .before .before .before .before .before .if1 .left) (c .before .before .before .before .before .before .before .before .before .before .before .if2 .left) (search needs) (c .before .before .before .before .before .before .before .before .before .store-byte .ensures) (c .before .before .before .before .append .ensures))
+returns-4 c = obeys-done _ (done-with (c .before .in-phase3 .ensures) (c .done2 .ensures)) (λ p. refl) (λ h g s p. data-last _ _ _ _ _ _ _ _ _ _ _ _ _ (c .before .before .before .before .before .before .before .before .before .before .before .before .before .if1 .left) (c .before .before .before .before .before .before .before .before .before .before .before .before .if2 .left) (search needs) (c .before .before .before .before .before .before .before .before .before .before .store-byte .ensures) (c .before .before .before .before .before .kind-of .ensures) (c .before .before .before .before .append .ensures))
 
 pub upload-data-spec : {M : Type 1} → statement M
 upload-data-spec =
@@ -71,11 +76,12 @@ upload-data-spec =
     returns-2
     store-byte-requires
     add-if3
-    add-t21
+    add-t22
     in-phase-requires-2
     done-requires
     same-length
     returns-3
+    kind-of-requires
     append-requires
     in-phase-requires-3
     done-requires-2

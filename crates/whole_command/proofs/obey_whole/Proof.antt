@@ -9,7 +9,7 @@ refused-requires : tie.Need-refused-requires
 refused-requires c κs = search needs
 
 returns : tie.Need-returns
-returns c = obeys-refused _ (c .refused .ensures) (λ h g s p. refl) (λ h g s p. short-unknown (c .before .before .before .before .before .before .args .bytes .now) (search needs) _)
+returns c = obeys-refused _ (c .refused .ensures) (λ h g s p. refl) (λ h g s p. short-unknown (c .before .before .before .before .before .before .args .config .edition) (c .before .before .before .before .before .before .args .bytes .now) (search needs) _)
 
 shared-slice-read-command-of : tie.Need-shared-slice-read-command-of
 shared-slice-read-command-of c = search needs
@@ -30,7 +30,7 @@ least-requires : tie.Need-least-requires
 least-requires c κs = search needs
 
 fixed-arguments-requires : tie.Need-fixed-arguments-requires
-fixed-arguments-requires c κs = room-there (c .before .before .before .before .before .before .before .before .before .args .bytes .now) _ _ _ (c .before .before .command-of .ensures) (c .before .arguments-of .ensures) (c .least .ensures) (search needs)
+fixed-arguments-requires c κs = room-there (c .before .before .before .before .before .before .before .before .before .args .config .edition) (c .before .before .before .before .before .before .before .before .before .args .bytes .now) _ _ _ (c .before .before .command-of .ensures) (c .before .arguments-of .ensures) (c .least .ensures) (search needs)
 
 obey-requires : tie.Need-obey-requires
 obey-requires c κs = search needs
@@ -45,7 +45,7 @@ same-length-3 : tie.Need-same-length-3
 same-length-3 c = search needs
 
 returns-2 : tie.Need-returns-2
-returns-2 c = whole-obeyed (c .before .before .before .before .before .before .before .before .before .before .before .before .before .before .before .before .before .before .before .before .args .bytes .now) _ _ _ (c .before .before .before .before .before .before .before .before .before .before .before .before .before .command-of .ensures) (c .before .before .before .before .before .before .before .before .before .before .before .before .arguments-of .ensures) (c .before .before .before .before .before .before .before .before .before .before .before .least .ensures) _ (c .before .before .before .before .before .before .before .before .before .before .fixed-arguments .ensures) (c .before .before .before .before .before .before .obey .ensures)
+returns-2 c = whole-obeyed (c .before .before .before .before .before .before .before .before .before .before .before .before .before .before .before .before .before .before .before .before .args .config .edition) (c .before .before .before .before .before .before .before .before .before .before .before .before .before .before .before .before .before .before .before .before .args .bytes .now) _ _ _ (c .before .before .before .before .before .before .before .before .before .before .before .before .before .command-of .ensures) (c .before .before .before .before .before .before .before .before .before .before .before .before .arguments-of .ensures) (c .before .before .before .before .before .before .before .before .before .before .before .least .ensures) _ (c .before .before .before .before .before .before .before .before .before .before .fixed-arguments .ensures) (c .before .before .before .before .before .before .obey .ensures)
 
 pub obey-whole-spec : {M : Type 1} → statement M
 obey-whole-spec =

@@ -5,6 +5,7 @@
 use compare::compare::Pair;
 use compare::lists::run_seed;
 use compare::report::tell;
+use reference::edition::EDITIONS;
 use reference::glass::HEIGHTS;
 use std::io::{BufRead, BufReader, Write};
 use std::process::{Command, ExitCode, Stdio};
@@ -102,7 +103,7 @@ fn worker(seconds: u64, from: u64) -> ExitCode {
     println!("seeds {from} to {seed}");
     println!("bytes fed {} in {took:.1} s, {:.0} a second", counts.bytes_fed, counts.bytes_fed as f64 / took);
     println!("replies {}", counts.replies);
-    for name in ["start", "feed", "arrive", "take"] {
+    for name in ["start", "feed", "time", "arrive", "take"] {
         let answers: Vec<String> = counts
             .answers
             .iter()
@@ -111,9 +112,10 @@ fn worker(seconds: u64, from: u64) -> ExitCode {
             .collect();
         println!("{name} calls {} (by answer {})", counts.calls(name), answers.join(", "));
     }
-    for height in HEIGHTS {
-        let fed: u64 = (0..=5).filter_map(|answer| counts.by_height.get(&("feed", height as u32, answer))).sum();
-        println!("feed calls with {height} rows {fed}");
+    for (height, edition) in HEIGHTS.into_iter().flat_map(|height| EDITIONS.map(|edition| (height, edition))) {
+        let own = |rows, of| (rows, of) == (height as u32, edition as u32);
+        let calls = |name| (0..=5).map(|answer| counts.with(name, answer, own)).sum::<u64>();
+        println!("with {height} rows in edition {edition}: feed calls {}, time calls {}", calls("feed"), calls("time"));
     }
     println!("signals {:?}", counts.signals);
     println!("differences {differences}");

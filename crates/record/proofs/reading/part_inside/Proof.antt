@@ -12,13 +12,13 @@ use Rattle.record.proofs.reading.part_inside.Statement.{statement}
 use Rattle.record.proofs.reading.part_inside.Tie as tie
 
 abbrev Inv-loop : tie.InvT-loop
-Inv-loop r k l₀ i₀ l i = Over (bytesFrom (drop k r) 0 11) l₀ l 11 i
+Inv-loop r k l₀ i₀ l i = Over (bytesFrom (drop k r) 0 12) l₀ l 12 i
 
 abbrev μ-loop : tie.MeasureT-loop
-μ-loop r k l₀ i₀ l i = 11 - i
+μ-loop r k l₀ i₀ l i = 12 - i
 
 loop-holds : tie.Need-loop-holds Inv-loop μ-loop
-loop-holds c = over-start (omega (arith, length-bytesFrom (drop (c .args .k) (c .args .r .now)) 0 11)) (search needs)
+loop-holds c = over-start (omega (arith, length-bytesFrom (drop (c .args .k) (c .args .r .now)) 0 12)) (search needs)
 
 add-l : tie.Need-add-l Inv-loop μ-loop
 add-l c = search needs
@@ -39,7 +39,7 @@ loop-again : tie.Need-loop-again Inv-loop μ-loop
 loop-again c = over-step (c .before .before .loop .inv) (search needs) (window-byte (c .before .before .before .args .r .now) (c .before .before .before .args .k) (c .before .before .loop .i) _ (search needs) refl)
 
 returns : tie.Need-returns Inv-loop μ-loop
-returns c = over-whole (c .before .loop .inv) (search needs) (length-bytesFrom _ 0 11) (search needs)
+returns c = over-whole (c .before .loop .inv) (search needs) (length-bytesFrom _ 0 12) (search needs)
 
 pub part-inside-spec : {M : Type 1} → statement M
 part-inside-spec =

@@ -11,9 +11,6 @@ part-at-requires c κs = search needs
 array-read-t6 : tie.Need-array-read-t6
 array-read-t6 c = search needs
 
-array-read-t9 : tie.Need-array-read-t9
-array-read-t9 c = search needs
-
 array-read-pair : tie.Need-array-read-pair
 array-read-pair c = search needs
 
@@ -32,14 +29,32 @@ array-read-pair-4 c = search needs
 pair-requires-2 : tie.Need-pair-requires-2
 pair-requires-2 c κs = search needs
 
-array-read-t26 : tie.Need-array-read-t26
-array-read-t26 c = search needs
+array-read-pair-5 : tie.Need-array-read-pair-5
+array-read-pair-5 c = search needs
+
+array-read-pair-6 : tie.Need-array-read-pair-6
+array-read-pair-6 c = search needs
+
+pair-requires-3 : tie.Need-pair-requires-3
+pair-requires-3 c κs = search needs
 
 array-read-t30 : tie.Need-array-read-t30
 array-read-t30 c = search needs
 
+array-read-t34 : tie.Need-array-read-t34
+array-read-t34 c = search needs
+
+array-read-pair-7 : tie.Need-array-read-pair-7
+array-read-pair-7 c = search needs
+
+array-read-pair-8 : tie.Need-array-read-pair-8
+array-read-pair-8 c = search needs
+
+pair-requires-4 : tie.Need-pair-requires-4
+pair-requires-4 c κs = search needs
+
 returns : tie.Need-returns
-returns c = upload-is _ _ (c .before .before .part-at .ensures) _ _ (c .before .pair .ensures) (c .pair2 .ensures)
+returns c = upload-is _ _ (c .before .before .before .before .part-at .ensures) _ _ _ _ (c .before .before .before .pair .ensures) (c .before .before .pair2 .ensures) (c .before .pair3 .ensures) (c .pair4 .ensures)
 
 pub upload-of-spec : {M : Type 1} → statement M
 upload-of-spec =
@@ -47,13 +62,18 @@ upload-of-spec =
     (tie.spec
     part-at-requires
     array-read-t6
-    array-read-t9
     array-read-pair
     array-read-pair-2
     pair-requires
     array-read-pair-3
     array-read-pair-4
     pair-requires-2
-    array-read-t26
+    array-read-pair-5
+    array-read-pair-6
+    pair-requires-3
     array-read-t30
+    array-read-t34
+    array-read-pair-7
+    array-read-pair-8
+    pair-requires-4
     returns)

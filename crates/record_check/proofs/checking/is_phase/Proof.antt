@@ -33,7 +33,7 @@ returns-4 : tie.Need-returns-4
 returns-4 c = search needs
 
 returns-5 : tie.Need-returns-5
-returns-5 c = phase-high _ (λ i. c .before .before .before .before .before .shared-slice-known .given i .fits) (search needs)
+returns-5 c = phase-high (c .before .before .before .before .before .before .args .r .now) (λ i. c .before .before .before .before .before .shared-slice-known .given i .fits) (search needs)
 
 pub is-phase-spec : {M : Type 1} → statement M
 is-phase-spec =

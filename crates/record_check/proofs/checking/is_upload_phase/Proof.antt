@@ -1,7 +1,7 @@
+use Rattle.record_check.proofs.Testing.{phase-uploads}
 -- `is_upload_phase` meets its contract.
 -- Assumes nothing.
 use borrow.Author.Needs.{needs}
-use Rattle.record_check.proofs.Testing.{phase-uploads}
 use Rattle.record_check.proofs.checking.is_upload_phase.Statement.{statement}
 use Rattle.record_check.proofs.checking.is_upload_phase.Tie as tie
 
@@ -16,6 +16,12 @@ add-pair-at-2 c = search needs
 
 pair-at-requires-2 : tie.Need-pair-at-requires-2
 pair-at-requires-2 c κs = search needs
+
+add-pair-at-3 : tie.Need-add-pair-at-3
+add-pair-at-3 c = search needs
+
+pair-at-requires-3 : tie.Need-pair-at-requires-3
+pair-at-requires-3 c κs = search needs
 
 shared-slice-read-is-upload : tie.Need-shared-slice-read-is-upload
 shared-slice-read-is-upload c = search needs
@@ -51,7 +57,7 @@ both-requires-2 : tie.Need-both-requires-2
 both-requires-2 c κs = search needs
 
 returns : tie.Need-returns
-returns c = phase-uploads _ (λ i. c .before .before .before .before .before .before .before .before .before .before .shared-slice-known .given i .fits) _ _ _ _ _ _ _ (c .before .before .before .before .before .before .before .before .before .before .before .pre .1) (c .before .before .before .before .before .before .before .before .before .pair-at .ensures) (c .before .before .before .before .before .before .before .before .pair-at2 .ensures) (c .before .before .before .before .is-upload .ensures) (c .before .before .before .is-clear .ensures) (c .before .before .is-flag .ensures) (c .before .both .ensures) (c .both2 .ensures)
+returns c = phase-uploads _ (λ i. c .before .before .before .before .before .before .before .before .before .before .before .shared-slice-known .given i .fits) _ _ _ _ _ _ _ _ (c .before .before .before .before .before .before .before .before .before .before .before .before .pre .1) (c .before .before .before .before .before .before .before .before .before .before .pair-at .ensures) (c .before .before .before .before .before .before .before .before .before .pair-at2 .ensures) (c .before .before .before .before .before .before .before .before .pair-at3 .ensures) (c .before .before .before .before .is-upload .ensures) (c .before .before .before .is-clear .ensures) (c .before .before .is-flag .ensures) (c .before .both .ensures) (c .both2 .ensures)
 
 pub is-upload-phase-spec : {M : Type 1} → statement M
 is-upload-phase-spec =
@@ -61,6 +67,8 @@ is-upload-phase-spec =
     pair-at-requires
     add-pair-at-2
     pair-at-requires-2
+    add-pair-at-3
+    pair-at-requires-3
     shared-slice-read-is-upload
     add-is-upload
     shared-slice-read-is-upload-2

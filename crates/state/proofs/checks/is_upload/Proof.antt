@@ -1,6 +1,7 @@
 -- `is_upload` meets its contract.
 -- Assumes nothing.
 use borrow.Author.Needs.{needs}
+use Rattle.state.specs.Soundness.{soundUpload}
 use Rattle.state.specs.Canonical.{canonicalUpload}
 use Rattle.state.proofs.checks.is_upload.Statement.{statement}
 use Rattle.state.proofs.checks.is_upload.Tie as tie
@@ -17,10 +18,20 @@ either-requires-2 c κs = search needs
 both-requires-2 : tie.Need-both-requires-2
 both-requires-2 c κs = search needs
 
+both-requires-3 : tie.Need-both-requires-3
+both-requires-3 c κs = search needs
+
 returns : tie.Need-returns
-unfolding canonicalUpload
+unfolding soundUpload canonicalUpload
 returns c = cc
 
 pub is-upload-spec : {M : Type 1} → statement M
 is-upload-spec =
-    tie.close (tie.spec either-requires either-requires-2 both-requires both-requires-2 returns)
+    tie.close
+    (tie.spec
+    either-requires
+    both-requires
+    either-requires-2
+    both-requires-2
+    both-requires-3
+    returns)
