@@ -1,21 +1,20 @@
 -- Worked examples of the editions and of time: how many arguments, each refusal and their order, records of both kinds, and 2,100 milliseconds.
 -- Assumes nothing.
 use mathlib.Core.Path.{_≡_, refl}
-use mathlib.Core.Bool.{true, false}
+use mathlib.Core.Bool.{false}
 use mathlib.Core.List.{List, [], _∷_, _++_}
 use Prim.Native.Nat.{ℕ}
 use lib.ListN.{getD, replicate}
 use Rattle.directory.specs.Directory as directory
 use Rattle.files.specs.Files.{appended, recordBytes}
 use Rattle.state.specs.declared.Command.the-variants.{ChooseFont, ShowBitmap, UploadFont, UploadBitmap, DeleteFile}
-use Rattle.state.specs.declared.Phase.the-variants.{Idle, Gathering, Upload}
+use Rattle.state.specs.declared.Phase.the-variants.{Gathering, Upload}
 use Rattle.state.specs.Commands.{commandOf, argumentsOf}
 use Rattle.state.specs.Editions.{older, newer}
 use Rattle.state.specs.State.{config}
 use Rattle.rules.specs.World.{World, port}
 use Rattle.rules.specs.Fonts.{openFont, openedAt}
 use Rattle.rules.specs.Text.{fontChosen, chooseFont}
-use Rattle.rules.specs.Pictures.{bitmapIn, bitmapAt, showBitmap}
 use Rattle.rules.specs.Files.{lacksSpace, beginUpload, uploadData, uploadWaits, deleteFile}
 use Rattle.rules.specs.Step.{Input, byte, time, obey, code, argument, alone, byPhase, waits, refuse, after, step, replies}
 use Rattle.rules.specs.Calls.{bytes, run, said}

@@ -16,7 +16,7 @@ use Rattle.calls.specs.Memory.{Memory, checked, loaded}
 use Rattle.calls.specs.Feed.{Fed, feedOf}
 use Rattle.calls.specs.Line.{Served}
 use Rattle.calls.specs.List.{Board, board, afterAll, consumedAll, sentAll}
-use Rattle.feed.specs.Called.{Called, calledBy, inputsCall, Timed, timedBy, timeCall}
+use Rattle.feed.specs.Called.{Called, calledBy, inputsCall, Timed}
 use Rattle.promises.specs.Made.{Made, fed, timed, arrived, handed, refusedFeed, refusedTime, refusedArrive, refusedTake, refusedStart, lentMemory, MeetsAll, left, leftAll, allConsumed, allSent, callsOf}
 use Rattle.promises.proofs.Refusals.{refused-feed, refused-time}
 use Rattle.promises.proofs.Unmoved.{feed-unmoved, time-unmoved, arrive-unmoved, take-unmoved, start-unmoved}

@@ -2,7 +2,7 @@
 -- milliseconds the upload is dropped.
 -- Assumes nothing.
 use mathlib.Core.Path.{_≡_, _∙_, refl, sym, ap}
-use mathlib.Core.List.{List, [], _∷_}
+use mathlib.Core.List.{[], _∷_}
 use mathlib.Core.Bool.{Bool, true, false, true≢false}
 use Prim.Native.Nat.{ℕ, _+_, _<_, _≤_}
 use native.Mathlib.Omega.{arith}
@@ -13,20 +13,14 @@ use Rattle.files.specs.Files.{storedByte}
 use Rattle.state.specs.declared.Phase.{Phase}
 use Rattle.state.specs.declared.Phase.the-variants.{Idle, Prefix, Gathering, Inline, Upload}
 use Rattle.state.specs.Editions.{patience}
-use Rattle.rules.specs.World.{World, edition, port, withStore, Outcome, done, quietly, refused}
+use Rattle.rules.specs.World.{World, edition, port, withStore, done, quietly, refused}
 use Rattle.rules.specs.Pictures.{inPhase}
 use Rattle.rules.specs.Files.{inUse, kindOf, lacksSpace, beginUpload, uploadData, uploadWaits}
 use Rattle.rules.specs.Numbers.{tooHigh}
-use Rattle.rules.specs.Step.{Input, byte, time, byPhase, waits, outcome, refuse, after, step, replies}
+use Rattle.rules.specs.Step.{byte, time, byPhase, waits, outcome, refuse, after, step, replies}
 use Rattle.rules.specs.Refused.{Unaltered}
 use Rattle.rules.proofs.Refusals.{demand-1, refused-step, refused-replies}
-
-abbrev uploads : Phase → Bool
-uploads Idle = false
-uploads Prefix = false
-uploads (Gathering code got) = false
-uploads (Inline x1 y1 x2 y2 came) = false
-uploads (Upload sort number size stored waiting held waited) = true
+use Rattle.promises.specs.Uploads.{uploads}
 
 -- ---- outside an upload
 

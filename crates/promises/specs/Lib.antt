@@ -2,3 +2,4 @@ pub mod Made
 pub mod Answers
 pub mod Promise
 pub mod Examples
+pub mod Uploads

@@ -2,7 +2,7 @@
 -- Assumes nothing.
 use mathlib.Core.List.{List, []}
 use mathlib.Core.Bool.{Bool, true, false, cond, not, _&&_}
-use Prim.Native.Nat.{ℕ, _+_, _*_, _%_}
+use Prim.Native.Nat.{ℕ, _+_, _%_}
 use lib.Dec.{eqb, ltb}
 use lib.ListN.{set}
 use Rattle.refusals.specs.Refusals.{unknownCommand, numberOutOfRange}
