@@ -10,8 +10,9 @@ typedef struct {
     const char *name;
     unsigned goal;       // instructions of a unit, at most; 0: there is none
     void (*start)(void); // before the work
-    void (*call)(void);  // a unit; NULL: a byte of the stream, in large pieces
+    void (*call)(void);  // a unit; NULL: a byte of the stream
     const char *stream;
+    size_t piece;        // bytes of its pieces
 } Work;
 
 static void nothing(void)
@@ -41,23 +42,27 @@ static void pass_a_millisecond(void)
 }
 
 static const Work works[] = {
-    {"arrive and take, a byte", 1200, nothing, queue_byte, NULL},
-    {"a feed of no bytes, no files", 1500, nothing, feed_nothing, NULL},
-    {"a feed of no bytes, 63 files", 5000, store_files, feed_nothing, NULL},
-    {"a time, no files", 1500, nothing, pass_a_millisecond, NULL},
-    {"a time, 63 files", 5000, store_files, pass_a_millisecond, NULL},
-    {"text, a byte", 700, nothing, NULL, "text"},
-    {"missing letters, a byte", 0, nothing, NULL, "missing letters"},
-    {"pixels, a byte", 90, nothing, NULL, "pixels"},
-    {"mixed, a byte", 700, nothing, NULL, "mixed"},
-    {"bars, a byte", 0, nothing, NULL, "bars"},
-    {"rectangles and frames, a byte", 0, nothing, NULL, "rectangles and frames"},
-    {"lines, a byte", 0, nothing, NULL, "lines"},
-    {"strips, a byte", 0, nothing, NULL, "strips"},
-    {"saved bitmaps, a byte", 0, nothing, NULL, "saved bitmaps"},
-    {"in-line bitmaps, a byte", 0, nothing, NULL, "in-line bitmaps"},
-    {"upload and delete, a byte", 0, nothing, NULL, "upload and delete"},
-    {"upload and delete, newer edition, a byte", 0, nothing, NULL, "upload and delete, newer edition"},
+    {"arrive and take, a byte", 1200, nothing, queue_byte, NULL, 0},
+    {"a feed of no bytes, no files", 1500, nothing, feed_nothing, NULL, 0},
+    {"a feed of no bytes, 63 files", 5000, store_files, feed_nothing, NULL, 0},
+    {"a time, no files", 1500, nothing, pass_a_millisecond, NULL, 0},
+    {"a time, 63 files", 5000, store_files, pass_a_millisecond, NULL, 0},
+    {"text, a byte", 700, nothing, NULL, "text", PIECE},
+    {"missing letters, a byte", 0, nothing, NULL, "missing letters", PIECE},
+    {"pixels, a byte", 90, nothing, NULL, "pixels", PIECE},
+    {"mixed, a byte", 700, nothing, NULL, "mixed", PIECE},
+    {"bars, a byte", 0, nothing, NULL, "bars", PIECE},
+    {"rectangles and frames, a byte", 0, nothing, NULL, "rectangles and frames", PIECE},
+    {"lines, a byte", 0, nothing, NULL, "lines", PIECE},
+    {"strips, a byte", 0, nothing, NULL, "strips", PIECE},
+    {"saved bitmaps, a byte", 0, nothing, NULL, "saved bitmaps", PIECE},
+    {"in-line bitmaps, a byte", 0, nothing, NULL, "in-line bitmaps", PIECE},
+    {"upload and delete, a byte", 0, nothing, NULL, "upload and delete", PIECE},
+    {"upload and delete, newer edition, a byte", 0, nothing, NULL, "upload and delete, newer edition", PIECE},
+    {"upload and delete, 59 other files, a byte", 0, nothing, NULL, "upload and delete, 59 other files", PIECE},
+    {"upload and delete, a byte, one in a piece", 1500, nothing, NULL, "upload and delete", 1},
+    {"upload and delete, 59 other files, a byte, one in a piece", 5000, nothing, NULL,
+     "upload and delete, 59 other files", 1},
 };
 
 // As many copies as there is room for, so that pieces are full.
@@ -77,7 +82,7 @@ static const Family *family_of(const char *name)
     return i < family_count ? &families[i] : NULL;
 }
 
-static void build(Stream *setup, Stream *s, const Family *family)
+static void build(Stream *setup, Stream *s, const Family *family, size_t piece)
 {
     if (family) {
         family->setup(setup);
@@ -85,7 +90,8 @@ static void build(Stream *setup, Stream *s, const Family *family)
     } else {
         mixed(s);
     }
-    repeat(s);
+    if (piece > 1)
+        repeat(s);
 }
 
 // Prints the work's name, units and goal. There is none of that number: exits with 1.
@@ -108,14 +114,14 @@ int main(int count, char **arguments)
     sides[OURS].start(family ? family->edition : DISPLAY_OLDER_EDITION);
     work->start();
     if (work->stream) {
-        build(&setup, &stream, family);
+        build(&setup, &stream, family, work->piece);
         feed_stream(&sides[OURS], &setup, PIECE);
         units = (unsigned long)stream.length;
     }
     printf("%s|%lu|%u\n", work->name, units, work->goal);
     while (times-- > 0) {
         if (work->stream)
-            feed_stream(&sides[OURS], &stream, PIECE);
+            feed_stream(&sides[OURS], &stream, work->piece);
         else
             for (i = 0; i < units; i++)
                 work->call();

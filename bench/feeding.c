@@ -45,7 +45,10 @@ static void print_row(const char *name, uint32_t edition, const Stream *setup, c
     printf("| %s | %lu | %.1f |", name, (unsigned long)piece, ns[OURS]);
     for (i = OURS + 1; i < SIDES; i++)
         printf(" %.1f | %.2f |", ns[i], ns[OURS] / ns[i]);
-    printf(" %.2f | %s |\n", goal, verdict(ns[OURS] <= ns[INDEPENDENT], ns[OURS] <= goal * ns[PLAIN_PIXELS]));
+    if (goal == COUNTED)
+        printf(" in instructions | |\n");
+    else
+        printf(" %.2f | %s |\n", goal, verdict(ns[OURS] <= ns[INDEPENDENT], ns[OURS] <= goal * ns[PLAIN_PIXELS]));
     fflush(stdout);
 }
 
@@ -65,6 +68,8 @@ void print_feeding(double shortest)
         families[i].setup(&setup);
         families[i].timed(&timed);
         print_row(families[i].name, families[i].edition, &setup, &timed, PIECE, families[i].goal, shortest);
+        if (families[i].by_byte)
+            print_row(families[i].name, families[i].edition, &setup, &timed, 1, COUNTED, shortest);
     }
     printf("\n");
 }

@@ -16,9 +16,6 @@ typedef struct {
     size_t length, count;
 } Repeated;
 
-// The goal of a call that has one in instructions.
-enum { COUNTED = 0 };
-
 static uint8_t glass[DISPLAY_LOW_FRAMEBUFFER_SIZE];
 
 static Repeated *repeated(int side, const uint8_t *command, size_t length)

@@ -7,7 +7,7 @@
 #include <stdlib.h>
 #include <string.h>
 
-enum { BITMAPS = 4 };
+enum { BITMAPS = 4, OTHERS = 59 };
 
 void put(Stream *s, const uint8_t *bytes, size_t length)
 {
@@ -164,6 +164,14 @@ static void newer_upload(Stream *s)
     }
 }
 
+// Bitmaps of one byte, as many as the directory holds beside those of `upload`.
+static void other_files(Stream *s)
+{
+    unsigned n;
+    for (n = 0; n < OTHERS; n++)
+        PUT(s, COMMAND, UPLOAD_BITMAP, (uint8_t)(100 + n), 1, 0, 0, CONFIRM);
+}
+
 static void delete_uploaded(Stream *s)
 {
     unsigned n;
@@ -229,19 +237,20 @@ static void nothing(Stream *s)
 enum { OLDER = DISPLAY_OLDER_EDITION, NEWER = DISPLAY_NEWER_EDITION };
 
 const Family families[] = {
-    {"text", OLDER, nothing, text_page, 1},
-    {"text that scrolls", OLDER, nothing, scrolled_text, 1},
-    {"missing letters", OLDER, nothing, missing_letters, 1},
-    {"bars", OLDER, nothing, bars, 1},
-    {"rectangles and frames", OLDER, nothing, rectangles, 1},
-    {"lines", OLDER, nothing, lines, 1.2},
-    {"pixels", OLDER, nothing, pixels, 3},
-    {"strips", OLDER, text_page, strips, 1},
-    {"saved bitmaps", OLDER, upload, saved_bitmaps, 1},
-    {"in-line bitmaps", OLDER, nothing, inline_bitmaps, 1.2},
-    {"upload and delete", OLDER, nothing, upload_and_delete, 3},
-    {"saved bitmaps, newer edition", NEWER, newer_upload, newer_bitmaps, 1},
-    {"upload and delete, newer edition", NEWER, nothing, newer_upload_and_delete, 3},
+    {"text", OLDER, nothing, text_page, 1, 0},
+    {"text that scrolls", OLDER, nothing, scrolled_text, 1, 0},
+    {"missing letters", OLDER, nothing, missing_letters, 1, 0},
+    {"bars", OLDER, nothing, bars, 1, 0},
+    {"rectangles and frames", OLDER, nothing, rectangles, 1, 0},
+    {"lines", OLDER, nothing, lines, 1.2, 0},
+    {"pixels", OLDER, nothing, pixels, 3, 0},
+    {"strips", OLDER, text_page, strips, 1, 0},
+    {"saved bitmaps", OLDER, upload, saved_bitmaps, 1, 0},
+    {"in-line bitmaps", OLDER, nothing, inline_bitmaps, 1.2, 0},
+    {"upload and delete", OLDER, nothing, upload_and_delete, 3, 1},
+    {"saved bitmaps, newer edition", NEWER, newer_upload, newer_bitmaps, 1, 0},
+    {"upload and delete, newer edition", NEWER, nothing, newer_upload_and_delete, 3, 0},
+    {"upload and delete, 59 other files", OLDER, other_files, upload_and_delete, 3, 1},
 };
 const size_t family_count = sizeof families / sizeof *families;
 

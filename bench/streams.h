@@ -13,13 +13,14 @@ typedef struct {
 
 typedef void Build(Stream *);
 
-// A family: the edition of its hosts, what is sent before it, what is timed, and how many times plain C's time it may
-// take.
+// A family: the edition of its hosts, what is sent before it, what is timed, how many times plain C's time it may take,
+// and whether it is timed in pieces of one byte too, as a host sends them that waits for each reply.
 typedef struct {
     const char *name;
     unsigned edition;
     Build *setup, *timed;
     double goal;
+    int by_byte;
 } Family;
 
 extern const Family families[];

@@ -2,6 +2,9 @@
 #ifndef TABLES_H
 #define TABLES_H
 
+// The goal of what has one in instructions.
+enum { COUNTED = 0 };
+
 // display_feed on each stream, beside the other sides.
 void print_feeding(double shortest);
 

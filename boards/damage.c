@@ -112,6 +112,41 @@ static void fill_directory(void)
         put_entry(entry, other, 1);
 }
 
+// Of all files together. What it is of a directory that is not sound does not matter.
+static unsigned sum_of_sizes(void)
+{
+    const uint8_t *directory = lent[STORE].bytes;
+    unsigned at = 0, sum = 0;
+    while (directory[at] != 0) {
+        unsigned length = directory[at] <= 2 ? OLDER_ENTRY : NEWER_ENTRY;
+        if (at + length >= DISPLAY_DIRECTORY_SIZE)
+            break;
+        sum += directory[at + length / 2] + 256u * directory[at + length / 2 + 1];
+        at += length;
+    }
+    return sum;
+}
+
+static void put_used_room(unsigned used)
+{
+    lent[STATE].bytes[DISPLAY_STATE_USED_ROOM_LOW] = (uint8_t)used;
+    lent[STATE].bytes[DISPLAY_STATE_USED_ROOM_HIGH] = (uint8_t)(used >> 8);
+}
+
+// Behind a change of the directory, three times in four, so that calls go on with what the directory is now.
+static void mend_used_room(void)
+{
+    if (below(4) > 0)
+        put_used_room(sum_of_sizes());
+}
+
+// One more or less, or a wrong bit.
+static void damage_used_room(void)
+{
+    unsigned used = sum_of_sizes();
+    put_used_room(below(2) > 0 ? used + 2 * below(2) - 1 : used ^ (1u << below(16)));
+}
+
 // The next refusal and the next byte lost roll over.
 static void fill_counts(void)
 {
@@ -121,7 +156,7 @@ static void fill_counts(void)
 
 void damage(unsigned height)
 {
-    switch (below(13)) {
+    switch (below(14)) {
     case 0:
     case 1:
         damage_byte(lent[STATE].bytes + below(DISPLAY_STATE_RECORD_SIZE));
@@ -136,9 +171,11 @@ void damage(unsigned height)
     case 5:
     case 6:
         damage_directory();
+        mend_used_room();
         break;
     case 7:
         fill_directory();
+        mend_used_room();
         break;
     case 8:
         fill_counts();
@@ -149,6 +186,9 @@ void damage(unsigned height)
         break;
     case 11:
         damage_edition();
+        break;
+    case 12:
+        damage_used_room();
         break;
     default:
         damage_length();

@@ -1,6 +1,6 @@
-// Scaffolding of check-header.c, check-heights.c, check-editions.c, check-files.c and check-time.c: the memory of one
-// display, the five calls on it, and checks that count themselves. Every call first copies the memory to `before`;
-// outputs hold garbage until the library writes them; a slice of length 0 is lent as a null pointer.
+// Scaffolding of check-header.c, check-heights.c, check-editions.c, check-files.c, check-used.c and check-time.c: the
+// memory of one display, the five calls on it, and checks that count themselves. Every call first copies the memory to
+// `before`; outputs hold garbage until the library writes them; a slice of length 0 is lent as a null pointer.
 #ifndef CHECK_CALLS_H
 #define CHECK_CALLS_H
 
@@ -127,6 +127,7 @@ void check_editions(void);
 void check_files(void);       // at the height that is set, by both editions
 void check_directories(void); // at the height and the edition that are set
 
-void check_time(void); // at the height and the edition that are set
+void check_used(void); // likewise
+void check_time(void);
 
 #endif

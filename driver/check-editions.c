@@ -130,6 +130,7 @@ static void check_edition(uint32_t protocol)
     check_unknown_starts();
     check_unknown_in_record();
     check_directories();
+    check_used();
     check_time();
 }
 

@@ -56,6 +56,8 @@ IS_UNSIGNED(DISPLAY_STATE_EDITION);
 IS_UNSIGNED(DISPLAY_STATE_CONTRAST);
 IS_UNSIGNED(DISPLAY_STATE_BACKLIGHT_ON);
 IS_UNSIGNED(DISPLAY_STATE_BACKLIGHT_MINUTES);
+IS_UNSIGNED(DISPLAY_STATE_USED_ROOM_LOW);
+IS_UNSIGNED(DISPLAY_STATE_USED_ROOM_HIGH);
 IS_UNSIGNED(DISPLAY_QUEUE_LOST_COUNT_LOW);
 IS_UNSIGNED(DISPLAY_QUEUE_LOST_COUNT_HIGH);
 
@@ -96,6 +98,8 @@ static bool is_obeyed(uint32_t height, uint32_t edition, display_length glass_le
                                 sizeof replies, &replied) == DISPLAY_OK && replied == 0;
     done = done && display_refusal_count(state) == 0 && display_last_refusal(state) == DISPLAY_NO_REFUSAL;
     done = done && display_height(state) == height && display_edition(state) == edition;
+    done = done && display_used_room(state) == 0;
+    done = done && display_free_room(state, sizeof store) == DISPLAY_STORE_LEAST - DISPLAY_DIRECTORY_SIZE;
     return done && display_lost_count(queue) == 0 && display_backlight_is_on(state);
 }
 

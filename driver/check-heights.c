@@ -130,6 +130,7 @@ static void check_order_of_refusals(void)
     memory.state[DISPLAY_STATE_HEIGHT]++;
     memory.state[DISPLAY_STATE_EDITION] = 0;
     memory.state[DISPLAY_STATE_BACKLIGHT_ON] = 2;
+    memory.state[DISPLAY_STATE_USED_ROOM_HIGH] = 1;
     memory.store[DISPLAY_DIRECTORY_SIZE - 1] = GARBAGE;
     CHECK_REFUSED("length of the state", n, DISPLAY_BAD_RECORD, 0);
     n.state--;
@@ -145,6 +146,8 @@ static void check_order_of_refusals(void)
     memory.state[DISPLAY_STATE_EDITION] = (uint8_t)edition;
     CHECK_REFUSED("directory", n, DISPLAY_BAD_DIRECTORY, 0);
     memory.store[DISPLAY_DIRECTORY_SIZE - 1] = 0;
+    CHECK_REFUSED("used room", n, DISPLAY_BAD_RECORD, 0);
+    memory.state[DISPLAY_STATE_USED_ROOM_HIGH] = 0;
     CHECK_REFUSED("reply room", n, DISPLAY_NO_REPLY_ROOM, 0);
     CHECK_FED("nothing", feed_with(n, BYTES('A'), DISPLAY_REPLY_ROOM), DISPLAY_OK, 1, 0);
     CHECK_FED("nothing", pass_with(n, 1, DISPLAY_REPLY_ROOM), DISPLAY_OK, 0, 0);

@@ -108,6 +108,9 @@ static void check_upload(void)
     drain();
     CHECK_BYTES("replies of both uploads", &host, BYTES(ACCEPTED, 3, 1, 0xA0, DECLINED));
     CHECK("directory", 0, memcmp(store, BYTES(2, 7, 3, 0, 0)) != 0);
+    CHECK("used room", 3, display_used_room(port.state));
+    CHECK("free room", DISPLAY_STORE_LEAST - DISPLAY_DIRECTORY_SIZE - 3,
+          display_free_room(port.state, port.store_length));
     CHECK("file", 0, memcmp(store + DISPLAY_DIRECTORY_SIZE, BYTES(3, 1, 0xA0)) != 0);
     CHECK("pixels", 2, black_pixels());
     CHECK("picture", 0x28, port.framebuffer[20 * DISPLAY_STRIDE + 1]);
@@ -216,6 +219,11 @@ static void damage_edition(void)
     port.state[DISPLAY_STATE_EDITION] = 0;
 }
 
+static void damage_used_room(void)
+{
+    port.state[DISPLAY_STATE_USED_ROOM_LOW]++;
+}
+
 static void damage_queue(void)
 {
     memset(port.queue, 0xFF, sizeof port.queue);
@@ -224,6 +232,11 @@ static void damage_queue(void)
 static void damage_directory(void)
 {
     store[DISPLAY_DIRECTORY_SIZE - 1] = 1;
+}
+
+static void add_file(void)
+{
+    memcpy(store, BYTES(2, 7, 1, 0));
 }
 
 static void damage_length(void)
@@ -295,9 +308,12 @@ static void check_faults(void)
     check_fault(damage_height, 3, 0, DISPLAY_BAD_RECORD, 1);
     check_fault(damage_queue, 3, 1, DISPLAY_BAD_RECORD, 1);
     check_fault(damage_directory, 3, 0, DISPLAY_BAD_DIRECTORY, 3 + 3 + 1); // by the feed after arrivals and takes
+    check_fault(damage_used_room, 3, 0, DISPLAY_BAD_RECORD, 3 + 3 + 1);
+    check_fault(add_file, 3, 0, DISPLAY_BAD_RECORD, 3 + 3 + 1);
     check_fault(damage_length, 3, 0, DISPLAY_BAD_STORE_SIZE, 3 + 3 + 1);
     check_fault(mistake_height, 3, 0, DISPLAY_BAD_FRAMEBUFFER_SIZE, 3 + 3 + 1);
     check_fault(damage_directory, 3, 1, DISPLAY_BAD_DIRECTORY, 3 + 1); // by the time after the arrivals
+    check_fault(damage_used_room, 3, 1, DISPLAY_BAD_RECORD, 3 + 1);
     check_fault(damage_length, 3, 1, DISPLAY_BAD_STORE_SIZE, 3 + 1);
     check_fault(damage_state, 0, 1, DISPLAY_BAD_RECORD, 1); // by the time alone
     check_fault(damage_height, 0, 1, DISPLAY_BAD_RECORD, 1);

@@ -17,6 +17,9 @@
 // height, and from then on the framebuffer is lent at that height's length. It also says which edition of the upload
 // protocol its hosts speak, and the record keeps that too. A store may be moved between heights and between editions.
 //
+// The state record also keeps how much of the store the files take. A board that puts a file into the store or takes
+// one out by itself starts again: until then the directory adds up to something else, and nothing is fed.
+//
 // The library has no clock. The board hands in the milliseconds that pass, with display_time; without them an upload
 // that its host has left lying is never dropped.
 //
@@ -70,7 +73,7 @@ typedef char display_length_has_8_bytes[sizeof(display_length) == 8 ? 1 : -1];
 #define DISPLAY_STORE_LEAST 1024u
 #define DISPLAY_STORE_MOST 32768u
 #define DISPLAY_DIRECTORY_SIZE 256u
-#define DISPLAY_STATE_RECORD_SIZE 207u
+#define DISPLAY_STATE_RECORD_SIZE 209u
 #define DISPLAY_QUEUE_RECORD_SIZE 85u
 #define DISPLAY_QUEUE_CAPACITY 80u // bytes that wait at most
 #define DISPLAY_REPLY_ROOM 2u      // free reply bytes that a fed byte or a time needs, whether it replies or not
@@ -79,7 +82,7 @@ typedef char display_length_has_8_bytes[sizeof(display_length) == 8 ? 1 : -1];
 #define DISPLAY_OK 0u
 #define DISPLAY_BAD_FRAMEBUFFER_SIZE 1u // not that of the height
 #define DISPLAY_BAD_STORE_SIZE 2u
-#define DISPLAY_BAD_RECORD 3u    // wrong length, unknown height or edition, or other contents that are not sound
+#define DISPLAY_BAD_RECORD 3u    // wrong length, unknown height or edition, wrong used room, or else not sound
 #define DISPLAY_BAD_DIRECTORY 4u // broken, or at odds with the upload under way
 #define DISPLAY_NO_REPLY_ROOM 5u // the only one of 1 to 7 after which bytes may have been obeyed
 #define DISPLAY_QUEUE_EMPTY 6u
@@ -117,15 +120,17 @@ typedef char display_length_has_8_bytes[sizeof(display_length) == 8 ? 1 : -1];
 #define DISPLAY_STATE_CONTRAST 204u
 #define DISPLAY_STATE_BACKLIGHT_ON 205u      // 0 or 1
 #define DISPLAY_STATE_BACKLIGHT_MINUTES 206u // as sent, kept while the backlight is off
+#define DISPLAY_STATE_USED_ROOM_LOW 207u     // bytes of the stored files together
+#define DISPLAY_STATE_USED_ROOM_HIGH 208u
 
 // Offsets into the queue record.
 #define DISPLAY_QUEUE_LOST_COUNT_LOW 83u
 #define DISPLAY_QUEUE_LOST_COUNT_HIGH 84u
 
 // Power-up of a glass of `height` rows, DISPLAY_LOW_HEIGHT or DISPLAY_TALL_HEIGHT, for hosts that speak `edition`,
-// DISPLAY_OLDER_EDITION or DISPLAY_NEWER_EDITION: white framebuffer, settings and counters as new, empty queue. The
-// store is only read and keeps its files, whichever height and edition they were uploaded at. The records may hold
-// anything before.
+// DISPLAY_OLDER_EDITION or DISPLAY_NEWER_EDITION: white framebuffer, settings and counters as new, empty queue, and the
+// used room that the directory adds up to. The store is only read and keeps its files, whichever height and edition
+// they were uploaded at. The records may hold anything before.
 // OK, or the first that applies of BAD_RECORD (another height, or the length of a record is wrong),
 // BAD_FRAMEBUFFER_SIZE, BAD_STORE_SIZE, BAD_RECORD (another edition) and BAD_DIRECTORY; nothing is written then.
 uint32_t display_start(uint32_t height, uint32_t edition, uint8_t *glass, display_length glass_length, uint8_t *store,
@@ -137,8 +142,9 @@ uint32_t display_start(uint32_t height, uint32_t edition, uint8_t *glass, displa
 // what it held.
 // OK: all bytes are consumed. NO_REPLY_ROOM: the first `*consumed` are done for good; send the replies, then feed the
 // others. The first that applies of BAD_RECORD (its length or its height is wrong), BAD_FRAMEBUFFER_SIZE,
-// BAD_STORE_SIZE, BAD_RECORD (the rest of it) and BAD_DIRECTORY: nothing is done, and both counts are 0. An empty piece
-// does nothing but these checks, and needs no reply room.
+// BAD_STORE_SIZE, BAD_RECORD (the rest of it but the used room), BAD_DIRECTORY and BAD_RECORD (the used room is not
+// what the directory adds up to): nothing is done, and both counts are 0. An empty piece does nothing but these checks,
+// and needs no reply room.
 uint32_t display_feed(uint8_t *glass, display_length glass_length, uint8_t *store, display_length store_length,
                       uint8_t *state, display_length state_length, const uint8_t *piece, display_length piece_length,
                       uint8_t *replies, display_length replies_length, display_length *consumed,
@@ -155,7 +161,7 @@ uint32_t display_time(const uint8_t *glass, display_length glass_length, const u
                       display_length store_length, uint8_t *state, display_length state_length, uint32_t milliseconds,
                       uint8_t *replies, display_length replies_length, display_length *replied);
 
-// Puts a byte that came on the wire at the end of the queue.
+// Puts a byte that came on the wire at the end of the queue. Neither this call nor the next looks at the used room.
 // OK: it waits there; `*signal` may ask the host to pause. QUEUE_FULL: it is thrown away and counted as lost.
 // BAD_RECORD, of either record: nothing changes. `*signal` is NONE with both refusals.
 uint32_t display_arrive(const uint8_t *state, display_length state_length, uint8_t *queue, display_length queue_length,
@@ -204,6 +210,19 @@ static inline int display_backlight_is_on(const uint8_t *state)
 static inline unsigned display_backlight_minutes(const uint8_t *state)
 {
     return state[DISPLAY_STATE_BACKLIGHT_MINUTES];
+}
+
+// Bytes of the store's file area that the stored files take, after every call that is answered OK or NO_REPLY_ROOM. An
+// upload counts from its last confirmation on.
+static inline unsigned display_used_room(const uint8_t *state)
+{
+    return state[DISPLAY_STATE_USED_ROOM_LOW] + 256u * state[DISPLAY_STATE_USED_ROOM_HIGH];
+}
+
+// The other bytes of the file area, in a store of this length.
+static inline unsigned display_free_room(const uint8_t *state, display_length store_length)
+{
+    return (unsigned)store_length - DISPLAY_DIRECTORY_SIZE - display_used_room(state);
 }
 
 // Bytes dropped at a full queue since start; 65,535 is followed by 0.

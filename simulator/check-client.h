@@ -1,5 +1,6 @@
-// Scaffolding of check-simulator.c, check-heights.c, check-editions.c and check-ends.c: starts simulators, talks to
-// them over their terminals, reads what they print, and counts checks. Nothing waits longer than LIMIT for anything.
+// Scaffolding of check-simulator.c, check-heights.c, check-editions.c, check-room.c and check-ends.c: starts
+// simulators, talks to them over their terminals, reads what they print, and counts checks. Nothing waits longer than
+// LIMIT for anything.
 #ifndef CHECK_CLIENT_H
 #define CHECK_CLIENT_H
 
@@ -102,6 +103,7 @@ void check_ending(const char *file, int line, unsigned height, const char *statu
 
 void check_heights(void);
 void check_editions(void); // and the clock
+void check_room(void);     // of the store
 void check_ends(void);
 
 #endif

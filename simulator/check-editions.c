@@ -21,11 +21,13 @@ static void check_replays(void)
                                4));
     run = START(PLAINLY, "--edition", "newer", "--replay", "stream", "--png", "newer.png");
     finish(&run);
-    CHECK_ENDING(LOW, "newer edition, contrast 128, backlight on, refused 1, last refusal 19, lost 0\n");
+    CHECK_ENDING(LOW, "newer edition, contrast 128, backlight on, refused 1, last refusal 19, lost 0, store used 3, "
+                      "free 32509\n");
     CHECK_PNG("newer.png", LOW, {10, 20, 10, 20}, {12, 20, 12, 20});
     run = START(PLAINLY, "--height", "128", "--replay", "stream", "--edition", "newer", "--png", "newer.png");
     finish(&run);
-    CHECK_ENDING(TALL, "newer edition, contrast 128, backlight on, refused 1, last refusal 19, lost 0\n");
+    CHECK_ENDING(TALL, "newer edition, contrast 128, backlight on, refused 1, last refusal 19, lost 0, store used 3, "
+                       "free 32509\n");
     CHECK_PNG("newer.png", TALL, {10, 20, 10, 20}, {12, 20, 12, 20});
 
     write_file("stream", BYTES(254, 94, 7, 3, 0, 3, 1, 1, 1, 0xA0, 1, 254, 98, 7, 10, 20));
@@ -63,7 +65,8 @@ static void check_one_store(void)
     memcpy(expected + DISPLAY_DIRECTORY_SIZE, picture, sizeof picture);
     CHECK("store of the newer edition", 1, file_is("editions", expected, sizeof expected));
     end_by(&run, SIGTERM);
-    CHECK_ENDING(LOW, "newer edition, contrast 128, backlight on, refused 1, last refusal 19, lost 0\n");
+    CHECK_ENDING(LOW, "newer edition, contrast 128, backlight on, refused 1, last refusal 19, lost 0, store used 3, "
+                      "free 32509\n");
 
     run = START_NAMED(PLAINLY, "--store", "editions", "--png", "editions.png");
     line = open_line(run.name);
@@ -124,6 +127,7 @@ static void check_dropped(Client *client, const struct timespec *begun, const ch
 
 static void check_clock(void)
 {
+    static const char dropped[] = "refused 1, last refusal 26, lost 0, store used 0, free 32512\n";
     const struct timespec pause = {1, 200000000};
     static Picture picture;
     Client older = start_client("older", "older-store"), newer = start_client("newer", "newer-store");
@@ -151,12 +155,12 @@ static void check_clock(void)
     SEND(slow.line, 1);
     EXPECT(older.line, 'B', 'C');
     EXPECT(newer.line, 'B');
-    check_dropped(&older, &begun, "older-store", "refused 1, last refusal 26, lost 0\n");
-    check_dropped(&newer, &begun, "newer-store", "refused 1, last refusal 26, lost 0\n");
+    check_dropped(&older, &begun, "older-store", dropped);
+    check_dropped(&newer, &begun, "newer-store", dropped);
 
     SEND(slow.line, 1, 1, 0xA0, 1);
     EXPECT(slow.line, 1, 0xA0);
-    end_client(&slow, "refused 0");
+    end_client(&slow, "refused 0, last refusal 0, lost 0, store used 3, free 32509\n");
     CHECK("store", 1, store_has_bitmap("slow-store", 7));
     SEND(slow_file, 1, 0xA0, 1, 254, 98, 7, 10, 20);
     close(slow_file);

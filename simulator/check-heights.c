@@ -19,7 +19,7 @@ static void check_replays(void)
     write_file("stream", BYTES(254, 112, 0, 63, 254, 112, 239, 127, 254, 112, 9, 128, 254, 120, 1, 20, 60, 29, 67));
     run = START(PLAINLY, "--height", "128", "--replay", "stream", "--png", "tall.png");
     finish(&run);
-    CHECK_ENDING(TALL, "contrast 128, backlight on, refused 0, last refusal 0, lost 0\n");
+    CHECK_ENDING(TALL, "contrast 128, backlight on, refused 0, last refusal 0, lost 0, store used 0, free 32512\n");
     read_braille(ending.out, &picture);
     CHECK_PICTURE(&picture, TALL, {0, 63, 0, 63}, {239, 127, 239, 127}, {20, 60, 29, 67});
     CHECK_PNG("tall.png", TALL, {0, 63, 0, 63}, {239, 127, 239, 127}, {20, 60, 29, 67});
@@ -156,9 +156,9 @@ static void check_scrolling(void)
     press(window, "\033[A\033[B");
     CHECK_FRAME("rows 4-119, up/down", 29, 0);
     resize(window, 1, 80);
-    CHECK_FRAME("[needs 120 by 33]  contrast", 0, 0);
+    CHECK_FRAME("[needs 120 by 33]  q quit  contrast", 0, 0);
     resize(window, 33, 120);
-    snprintf(all, sizeof all, "%s  contrast 128", run.name);
+    snprintf(all, sizeof all, "%s  q quit  contrast 128", run.name);
     CHECK_FRAME(all, 32, 1);
     press(window, "\033q");
     finish(&run);

@@ -36,7 +36,7 @@ static void check_wire(void)
     EXPECT(line, 18, 52);
     close(line);
     end_by(&run, SIGTERM);
-    CHECK_ENDING(LOW, "contrast 128, backlight on, refused 2, last refusal 25, lost 0\n");
+    CHECK_ENDING(LOW, "contrast 128, backlight on, refused 2, last refusal 25, lost 0, store used 3, free 32509\n");
     CHECK("nothing on standard error", 0, ending.err[0]);
     read_braille(ending.out, &picture);
     CHECK_PICTURE(&picture, LOW, {10, 20, 10, 20}, {12, 20, 12, 20});
@@ -59,7 +59,8 @@ static void check_every_byte(void)
     settle(line);
     close(line);
     end_by(&run, SIGINT);
-    CHECK_ENDING(LOW, "contrast 200, backlight on for 5 min, refused 0, last refusal 0, lost 0\n");
+    CHECK_ENDING(LOW, "contrast 200, backlight on for 5 min, refused 0, last refusal 0, lost 0, store used 256, "
+                      "free 32256\n");
 }
 
 // Writes until the line has taken nothing for a while, then reads as well until all replies are there.
@@ -117,7 +118,7 @@ static void check_burst(void)
     settle(line);
     close(line);
     end_by(&run, SIGTERM);
-    CHECK_ENDING(LOW, "refused 0, last refusal 0, lost 0\n");
+    CHECK_ENDING(LOW, "refused 0, last refusal 0, lost 0, store used 0, free 32512\n");
 }
 
 static void check_png_files(void)
@@ -154,7 +155,7 @@ static void check_replay(void)
     write_file("stream", BYTES(254, 120, 1, 2, 1, 4, 2, 254, 80, 7, 254, 70, 254, 1));
     run = START(PLAINLY, "--replay", "stream", "--png", "replay.png");
     finish(&run);
-    CHECK_ENDING(LOW, "contrast 7, backlight off, refused 1, last refusal 16, lost 0\n");
+    CHECK_ENDING(LOW, "contrast 7, backlight off, refused 1, last refusal 16, lost 0, store used 0, free 32512\n");
     CHECK("nothing on standard error", 0, ending.err[0]);
     read_braille(ending.out, &picture);
     CHECK_PICTURE(&picture, LOW, {2, 1, 4, 2});
@@ -181,7 +182,7 @@ static void check_long_replay(void)
     write_file("stream", stream, sizeof stream);
     run = START(FROM_STREAM, "--replay", "-");
     finish(&run);
-    CHECK_ENDING(LOW, "refused 0, last refusal 0, lost 0\n");
+    CHECK_ENDING(LOW, "refused 0, last refusal 0, lost 0, store used 0, free 32512\n");
     read_braille(ending.out, &picture);
     CHECK_PICTURE(&picture, LOW, {0, 0, 199, 4});
 }
@@ -203,7 +204,8 @@ static void check_live(void)
     int window = run.window, line = open_line(run.name), fresh = posix_openpt(O_RDWR | O_NOCTTY);
     before = settings_of(fresh);
     CHECK_CONTAINS(read_until(run.out, "\033[?1049h"), "\033[?1049h");
-    CHECK_CONTAINS(read_until(run.out, "lost 0"), "contrast 128, backlight on, refused 0, last refusal 0, lost 0");
+    CHECK_CONTAINS(read_until(run.out, "free 32512"), "  p PNG  q quit  contrast 128, backlight on, refused 0, "
+                                                      "last refusal 0, lost 0, store used 0, free 32512");
     during = settings_of(window);
     CHECK("keys are shown, or wait for a line's end", 0, (long)(during.c_lflag & (ECHO | ICANON)));
     SEND(line, 254, 112, 0, 0);
@@ -238,7 +240,7 @@ static void check_keys(void)
     CHECK_CONTAINS(read_until(run.err, "\n"), "wrote keys.png");
     CHECK("key q", 1, (long)write(run.window, "q", 1));
     finish(&run);
-    CHECK_ENDING(LOW, "contrast 128, backlight on, refused 0, last refusal 0, lost 0\n");
+    CHECK_ENDING(LOW, "contrast 128, backlight on, refused 0, last refusal 0, lost 0, store used 0, free 32512\n");
     close(run.window);
 }
 
@@ -261,6 +263,7 @@ int main(int count, char **arguments)
     check_keys();
     check_heights();
     check_editions();
+    check_room();
     check_ends();
     if (failures != 0)
         printf("check-simulator: %u failed\n", failures);

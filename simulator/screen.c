@@ -142,8 +142,8 @@ static int draw(const Port *port, const char *line, struct winsize size)
     return write_out(frame, length);
 }
 
-// What the window lacks, and which rows of pixels it shows if not all. It stands ahead of the status, so that a narrow
-// window has it.
+// What the window lacks, and which rows of pixels it shows if not all. It stands ahead of the status, and so do the
+// keys, so that a narrow window has them.
 static void make_need(char *need, size_t most, unsigned height, struct winsize size)
 {
     unsigned rows = view_rows(height, blocks), shown = shown_rows(height, size), scale = view_scale(blocks);
@@ -161,7 +161,7 @@ static void make_line(char *line, const Port *port, struct winsize size)
     char status[VIEW_STATUS_SIZE], need[64];
     make_need(need, sizeof need, display_height(port->state), size);
     view_status(status, port);
-    snprintf(line, LINE_SIZE, "%s%s%s%s  %s%s", heading, need, message[0] != '\0' ? "  " : "", message, status, keys);
+    snprintf(line, LINE_SIZE, "%s%s%s%s%s  %s", heading, need, message[0] != '\0' ? "  " : "", message, keys, status);
 }
 
 int screen_update(const Port *port, int *again)

@@ -68,7 +68,7 @@ enum { VIEW_ROW_SIZE = 3 * DISPLAY_WIDTH, VIEW_STATUS_SIZE = 160 };
 // The first `columns` characters of a row, without an end. Their length in bytes.
 size_t view_row(char *text, const uint8_t *framebuffer, unsigned row, unsigned columns, int blocks);
 
-// The newer edition, contrast, backlight and counters in a line.
+// The newer edition, contrast, backlight, counters and the store's room in a line.
 void view_status(char *text, const Port *port);
 
 // The whole picture and the status on standard output.

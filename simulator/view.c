@@ -64,10 +64,12 @@ void view_status(char *text, const Port *port)
     unsigned limit = display_backlight_minutes(port->state);
     if (display_backlight_is_on(port->state) && limit > 0)
         snprintf(minutes, sizeof minutes, " for %u min", limit);
-    snprintf(text, VIEW_STATUS_SIZE, "%scontrast %u, backlight %s%s, refused %u, last refusal %u, lost %u",
+    snprintf(text, VIEW_STATUS_SIZE,
+             "%scontrast %u, backlight %s%s, refused %u, last refusal %u, lost %u, store used %u, free %u",
              display_edition(port->state) == DISPLAY_NEWER_EDITION ? "newer edition, " : "",
              display_contrast(port->state), display_backlight_is_on(port->state) ? "on" : "off", minutes,
-             display_refusal_count(port->state), display_last_refusal(port->state), display_lost_count(port->queue));
+             display_refusal_count(port->state), display_last_refusal(port->state), display_lost_count(port->queue),
+             display_used_room(port->state), display_free_room(port->state, port->store_length));
 }
 
 int view_print(const Port *port, int blocks)

@@ -86,6 +86,7 @@ fn in_a_delete() {
                 assert_eq!(refusal(&mut board, &command), expected(number, held), "{number}");
                 assert_eq!(board.store != full, held);
                 board.store.clone_from(&full);
+                board.recount();
             }
             let command = [vec![254, 173, 2], number_sent(edition, number)].concat();
             assert_eq!(refusal(&mut board, &command), 20, "{number}");

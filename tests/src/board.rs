@@ -1,6 +1,7 @@
 //! Everything that is lent to the calls, in one place.
 
 use crate::feed::{feed, feed_watched, time, time_watched, Fed, Watch};
+use crate::files::Files;
 use crate::glass::Glass;
 use crate::input::{leading_bytes, Input};
 use crate::queue::{arrive, take, Arrived, Queue, Taken};
@@ -28,6 +29,13 @@ impl Board {
         };
         assert_eq!(board.start(Choice::of(height, edition)), 0, "a start on a good store");
         board
+    }
+
+    /// Makes the kept sum true again after the store was changed from outside, if its directory holds to its rules.
+    pub fn recount(&mut self) {
+        if let Some(files) = Files::read(&self.store) {
+            self.state.used = files.used() as u16;
+        }
     }
 
     pub fn start(&mut self, given: Choice) -> u8 {

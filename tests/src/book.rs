@@ -4,6 +4,7 @@ use crate::book_colour::colour_holds;
 use crate::book_editions::editions_hold;
 use crate::book_missing::missing_holds;
 use crate::book_times::times_hold;
+use crate::book_used::used_holds;
 use crate::files::Files;
 use crate::footprint::Footprint;
 use crate::glass::{Glass, WIDTH};
@@ -130,6 +131,7 @@ impl Book {
         colour_holds(step, before, after)?;
         times_hold(step, before, after)?;
         editions_hold(step, before, after)?;
+        used_holds(step, before, after)?;
         self.enter(step, &touched, state.height as usize);
         if step.subject == Subject::Command(99) {
             self.colour_byte = step.arguments.first().copied();

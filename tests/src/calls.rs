@@ -2,7 +2,9 @@
 
 use crate::board::Board;
 use crate::book::Book;
+use crate::book_used::sum_is_true;
 use crate::calls_refused::refused_calls;
+use crate::calls_used::wrong_sums;
 use crate::coverage::Coverage;
 use crate::feed::{Fed, Watch};
 use crate::generator::Scene;
@@ -37,7 +39,10 @@ pub fn run_list(scene: &Scene, stream: &[Input], coverage: &mut Coverage) -> Res
             }
             (6, _) => arrivals(&mut board, &mut rng, &mut waiting, coverage)?,
             (7, _) => takes(&mut board, &mut rng, &mut waiting, coverage)?,
-            _ => refused_calls(&board, &leading_bytes(left), &mut rng, coverage)?,
+            _ => {
+                refused_calls(&board, &leading_bytes(left), &mut rng, coverage)?;
+                wrong_sums(&board, &leading_bytes(left), &mut rng, coverage)?;
+            }
         }
     }
     if (&board.glass, &board.store, &board.state) != (&straight.glass, &straight.store, &straight.state) {
@@ -60,6 +65,7 @@ pub fn beside_the_book(
         coverage.step(step, files, state);
         coverage.colour(step, book.glass(), glass, state.height, book.colour_byte());
         coverage.edition(step, (book.store(), book.state()), files);
+        coverage.used(step, (book.store(), book.state()), state);
         let (text, sure) = (book.state().text.clone(), book.sure());
         if result.is_ok() {
             result = book.input(step, glass, files, state);
@@ -89,6 +95,7 @@ fn waited(
     if fed.answer == 5 && *board != before {
         return Err("a time call without room changed something".into());
     }
+    sum_is_true(&board.store, &board.state)?;
     Ok(fed)
 }
 
@@ -111,6 +118,7 @@ fn watched(
     if !fits {
         return Err(format!("answer {} with {} of {} consumed", fed.answer, fed.consumed, piece.len()));
     }
+    sum_is_true(&board.store, &board.state)?;
     Ok(fed)
 }
 

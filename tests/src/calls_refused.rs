@@ -1,8 +1,11 @@
 //! Calls on copies with bad memory, one to three things wrong at once: the first answer in order, and nothing changed.
 
 use crate::board::Board;
+use crate::book_used::sizes;
+use crate::calls_used::WRONG;
 use crate::checks_start::{UNKNOWN, UNKNOWN_EDITIONS};
 use crate::coverage::Coverage;
+use crate::directory::DIRECTORY;
 use crate::edition::{EDITIONS, OLDER};
 use crate::feed::{feed, time, Fed};
 use crate::files::Files;
@@ -28,14 +31,15 @@ pub enum Fault {
     Directory,
     Upload,
     UploadNumber,
+    Used,
 }
 
 use Fault as F;
 
 #[rustfmt::skip]
-const FAULTS: [Fault; 14] = [
+const FAULTS: [Fault; 15] = [
     F::Length, F::QueueLength, F::Height, F::Glass, F::OtherGlass, F::Store, F::Unsound, F::Thresholds, F::Meaningless,
-    F::Edition, F::Waited, F::Directory, F::Upload, F::UploadNumber,
+    F::Edition, F::Waited, F::Directory, F::Upload, F::UploadNumber, F::Used,
 ];
 
 /// What is wrong, and the memory that it is wrong with.
@@ -108,8 +112,8 @@ impl Bad {
                 bad.store[rng.pick(&[end, 255])] = 7;
             }
             F::Upload => {
-                let number = rng.pick(&[1, 20]);
-                let size = if number == 1 { 5 } else { 40000 };
+                let unused = Files::read(&bad.store).map_or(40000, |files| files.unused() as u16);
+                let (number, size) = rng.pick(&[(1, 5), (20, 40000), (20, unused.max(2) + 1)]);
                 *self.upload() =
                     Upload { stored: 2, waited: self.upload().waited, ..Upload::new(Sort::Font, number, size) };
             }
@@ -117,6 +121,11 @@ impl Bad {
                 let number = rng.pick(&[1024, 1025, 65535]);
                 let older = self.board.state.edition == OLDER;
                 self.upload().number = if older && rng.percent(50) { rng.pick(&[256, 257, 1023]) } else { number };
+            }
+            F::Used => {
+                // an empty store has no lower sum
+                let wrong = rng.pick(&WRONG).instead_of(bad.state.used, rng);
+                bad.state.used = wrong.unwrap_or(1);
             }
         }
     }
@@ -151,6 +160,8 @@ impl Bad {
             3
         } else if self.any(&[F::Directory, F::Upload, F::UploadNumber]) {
             4
+        } else if self.any(&[F::Used]) {
+            3
         } else {
             0
         }
@@ -247,7 +258,8 @@ impl Bad {
         coverage.note(start_edition_name(edition, answer));
         let as_it_should = match known.zip(known_edition).filter(|_| answer == 0) {
             Some((height, edition)) => {
-                after.state == State::at_start(height, edition) && after.glass == Glass::white(height)
+                let used = sizes(&after.store[..DIRECTORY]) as u16;
+                after.state == State { used, ..State::at_start(height, edition) } && after.glass == Glass::white(height)
             }
             None => after == self.board,
         };

@@ -89,14 +89,18 @@ checks! {
         // the number is in use by now
         let mut bad = good.clone();
         bad.store[..4].copy_from_slice(&[2, 7, 1, 0]);
+        bad.state.used = 1;
         refused(&bad, &[9], 4);
         // the same number as a font does no harm
         bad.store[..4].copy_from_slice(&[1, 7, 1, 0]);
+        bad.state.used = 1;
         assert_eq!(bad.clone().feed(&[9], 2).answer, 0);
         // 68 bytes may be in use beside 700, 69 may not
         bad.store[..4].copy_from_slice(&[1, 7, 68, 0]);
+        bad.state.used = 68;
         assert_eq!(bad.clone().feed(&[9], 2).answer, 0);
         bad.store[..4].copy_from_slice(&[1, 7, 69, 0]);
+        bad.state.used = 69;
         refused(&bad, &[], 4);
         // 63 files, or font 1
         let mut full = good.clone();
@@ -104,6 +108,7 @@ checks! {
         for k in 0..63 {
             full.store[4 * k..4 * k + 4].copy_from_slice(&[2, 100 + k as u8, 1, 0]);
         }
+        full.state.used = 63;
         refused(&full, &[9], 4);
         let mut font_one = good.clone();
         font_one.state.upload = Some(Upload { sort: Sort::Font, number: 1, ..upload });
@@ -183,6 +188,7 @@ checks! {
             assert_eq!(board.state.last_refusal, 22);
         }
         board.store[..4].copy_from_slice(&[1, 6, 3, 0]);
+        board.state.used = 3;
         for piece in [&[45u8][..], &[254, 71, 0, 0], &[255]] {
             board.feed(piece, 2);
             assert_eq!(board.state.last_refusal, 23);
@@ -197,6 +203,7 @@ checks! {
         let mut board = board(1024);
         board.state.text.font = 6;
         board.store[..4].copy_from_slice(&[1, 6, 11, 0]);
+        board.state.used = 11;
         board.store[256..267].copy_from_slice(&[4, 1, 65, 66, 0, 10, 2, 0, 11, 2, 192]);
         board.feed(b"A", 2);
         assert_eq!(board.state.last_refusal, 23);

@@ -48,6 +48,7 @@ fn with_bytes(bytes: &[u8]) -> Option<Vec<u8>> {
 fn answers(store: &[u8]) -> [u8; 3] {
     let mut board = board_of(LOW, OLDER);
     board.store = store.to_vec();
+    board.recount();
     let before = board.clone();
     let of_calls = [board.feed(&[], 0).answer, board.time(1, 2).answer];
     assert_eq!(board, before);
@@ -212,6 +213,7 @@ checks! {
         for edition in EDITIONS {
             let mut board = board_of(LOW, edition);
             put_records(&mut board.store, &records);
+            board.state.used = 8;
             board.store[256..265].copy_from_slice(&[1, 2, 3, 4, 5, 6, 7, 8, 99]);
             let with_number = |sort: u8, number: u16| [vec![254, 173, sort], number_sent(edition, number)].concat();
             sent(&mut board, &with_number(0, 5));
@@ -230,6 +232,7 @@ checks! {
     fn room_for_records_after_deletes() {
         let mut full = board_of(LOW, OLDER);
         full.store = with_bytes(&many(1, 62, true)).unwrap();
+        full.state.used = 63;
         let begun = |board: &Board, edition: u8| {
             let mut board = board.clone();
             board.state.edition = edition;
@@ -253,6 +256,7 @@ checks! {
             for (edition, expected) in [(OLDER, small), (NEWER, wide)] {
                 let mut board = board_of(LOW, edition);
                 board.store = with_bytes(&many(newer, older, false)).unwrap();
+                board.state.used = (newer + older) as u16;
                 let replies = sent(&mut board, &upload_begun(edition, 36, 9, 1));
                 assert_eq!(replies, [if expected { 1 } else { 8 }], "{newer} of seven and {older} of four in {edition}");
                 assert_eq!(board.state.last_refusal, if expected { 0 } else { 24 });
@@ -264,6 +268,7 @@ checks! {
         for edition in EDITIONS {
             let mut board = board_of(LOW, edition);
             put_records(&mut board.store, &KINDS.map(|kind| record(kind, 40 + kind as u16, 1)));
+            board.state.used = 4;
             board.store[256..260].copy_from_slice(&[1, 2, 3, 4]);
             sent(&mut board, &[254, 33, 89, 33]);
             assert_eq!(board.store[..256], [0; 256]);

@@ -50,6 +50,7 @@ fn with_font(height: u8, file: &[u8]) -> Board {
     board.state.text.font = 6;
     board.store[..4].copy_from_slice(&[1, 6, file.len() as u8, (file.len() / 256) as u8]);
     board.store[256..256 + file.len()].copy_from_slice(file);
+    board.state.used = file.len() as u16;
     board
 }
 
@@ -97,6 +98,7 @@ checks! {
             }
             // a bitmap of that number is no font
             board.store[..4].copy_from_slice(&[2, 6, 1, 0]);
+            board.state.used = 1;
             IGNORED.into_iter().for_each(|byte| refused(&board, byte, 22));
             // nor is there room
             (board.state.text.x, board.state.text.wrap) = (495, false);

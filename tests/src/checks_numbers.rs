@@ -24,6 +24,7 @@ fn holding(edition: u8, files: &[(Kind, u16)]) -> Board {
         records.push(Record { kind, number, size: file.len() as u32 });
     }
     put_records(&mut board.store, &records);
+    board.state.used = (at - DIRECTORY) as u16;
     assert_eq!(board.feed(&[], 0).answer, 0);
     board
 }

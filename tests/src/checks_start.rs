@@ -120,7 +120,7 @@ checks! {
             board.state.text.x = 9999;
             board.state.full = 200;
             board.state.serial = Some((1, 2));
-            board.state.refusals = 5;
+            (board.state.refusals, board.state.used) = (5, 40000);
             board.state.bars[3] = Some(Bar { side: 9, x1: 9, y1: 9, x2: 1, y2: 1, value: 200 });
             board.state.inline = Some(Inline { x1: 9, y1: 9, x2: 1, y2: 1, come: 0 });
             board.state.upload = Some(Upload { sort: Sort::Font, number: 1, size: 9999, stored: 9999, echoed: None, waited: 0 });
@@ -130,7 +130,7 @@ checks! {
             let store = board.store.clone();
             assert_eq!(board.start(older(height as u32)), 0);
             assert_eq!(board.glass, Glass::white(height));
-            assert_eq!(board.state, State::at_start(height, OLDER));
+            assert_eq!(board.state, State { used: 9, ..State::at_start(height, OLDER) });
             assert_eq!((board.queue.held, board.queue.place, board.queue.lost, board.queue.mark), (0, 0, 0, false));
             assert_eq!(board.store, store, "the store stays");
         }
@@ -155,7 +155,7 @@ checks! {
             assert_eq!((t.wrap, t.scroll, t.x, t.y), (true, true, 0, 0));
             assert_eq!((s.black, s.line_x, s.line_y, s.contrast), (true, 0, 0, 128));
             assert_eq!((s.backlight, s.minutes, s.flow, s.full, s.empty), (true, 0, false, 0, 0));
-            assert_eq!((s.refusals, s.last_refusal, s.serial), (0, 0, None));
+            assert_eq!((s.refusals, s.last_refusal, s.serial, s.used), (0, 0, None, 0));
             assert!(s.bars.iter().all(Option::is_none) && s.strips.iter().all(Option::is_none));
         }
     }

@@ -66,6 +66,7 @@ checks! {
                 let mut board = board(height);
                 board.store = stored.clone();
                 board.state.text.font = 2;
+                board.recount();
                 assert_eq!(board.feed(piece, 9).answer, 0);
                 assert_eq!(board.state.last_refusal, refusal, "{height} {piece:?}");
             }

@@ -239,9 +239,14 @@ impl Machine<'_> {
             _ => return Err(20),
         };
         in_range(173, number)?;
-        if self.file(sort, number).is_none() || !self.files.delete(sort, number) {
+        if self.file(sort, number).is_none() {
+            if is(M::UsedFallsAtARefusedDelete) {
+                self.state.used = self.state.used.saturating_sub(1);
+            }
             return Err(22);
         }
+        let gone = self.files.delete(sort, number).ok_or(22)?;
+        self.state.used_after_delete(&gone, self.files);
         let of_fonts = sort == Sort::Font || is(M::DeletedBitmapResetsFont);
         let current = self.state.text.font;
         let same = if is(M::DeletedFontComparedByLowByte) { number % 256 == current % 256 } else { number == current };
@@ -254,9 +259,13 @@ impl Machine<'_> {
     /// The directory and the text settings; nothing else.
     fn purge(&mut self, a: &[u8]) -> Result<Footprint, u8> {
         if a != [89, 33] {
+            if is(M::UsedClearedByARefusedPurge) {
+                self.state.used = 0;
+            }
             return Err(20);
         }
         self.files.purge();
+        self.state.used_after_purge();
         if is(M::PurgeKeepsTextSettings) {
             self.state.text.font = 1;
             return self.home();

@@ -9,6 +9,7 @@ use crate::coverage_faults::{reason, REASONS};
 use crate::coverage_heights::{height_reasons, HEIGHT_REASONS};
 use crate::coverage_missing;
 use crate::coverage_times;
+use crate::coverage_used;
 use crate::directory::{Kind, RECORDS_MOST};
 use crate::edition::{EDITIONS, NEWER, NUMBER_MOST};
 use crate::files::Files;
@@ -140,6 +141,7 @@ impl Coverage {
         wanted.extend(coverage_colour::wanted());
         wanted.extend(coverage_edition::wanted());
         wanted.extend(coverage_times::wanted());
+        wanted.extend(coverage_used::wanted());
         for rows in HEIGHTS {
             for edition in EDITIONS {
                 wanted.extend(wanted_of_steps(edition).iter().map(|what| format!("{} {what}", at(rows, edition))));

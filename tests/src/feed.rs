@@ -6,6 +6,7 @@ use crate::lending::accepted;
 use crate::machine::{Machine, Step};
 use crate::mutants::{is, Mutant as M};
 use crate::state::{Lent, State};
+use crate::used::Asking;
 
 /// What a call hands back; a time call consumes nothing.
 #[derive(Clone, Debug, PartialEq, Eq)]
@@ -45,10 +46,11 @@ pub fn feed_watched(
     if is(M::EmptyPieceUnchecked) && piece.is_empty() {
         return Fed::refused(0);
     }
-    let (mut files, state) = match accepted(glass, store, state) {
+    let (mut files, state) = match accepted(glass, store, state, Asking::Piece { bytes: piece.len(), room }) {
         Ok(lent) => lent,
         Err(answer) => return Fed::refused(answer),
     };
+    let used_before = state.used;
     let mut replies = Vec::new();
     let mut consumed = 0;
     let least = if is(M::OneReplyByteIsEnough) { 1 } else { ROOM_LEAST };
@@ -64,6 +66,9 @@ pub fn feed_watched(
     }
     if is(M::FiveWithoutByteLeft) && !piece.is_empty() && room.saturating_sub(replies.len()) < least {
         answer = 5;
+    }
+    if is(M::UsedIsOldAfterFive) && answer == 5 {
+        state.used = used_before;
     }
     store.copy_from_slice(&files.raw);
     Fed { answer, consumed, replies }
@@ -87,7 +92,7 @@ pub fn time_watched(
     if let Some(answer) = wrong_order(&state, room) {
         return Fed::refused(answer);
     }
-    let (mut files, state) = match accepted(glass, store, state) {
+    let (mut files, state) = match accepted(glass, store, state, Asking::Time { room }) {
         Ok(lent) => lent,
         Err(answer) => return Fed::refused(answer),
     };

@@ -168,17 +168,12 @@ impl Files {
         self.write_directory();
     }
 
-    /// What lies behind closes up; old copies past the new end are left there.
-    pub fn delete(&mut self, sort: Sort, number: u16) -> bool {
-        let Some(place) = self.list.iter().position(|file| file.is_named(sort, number)) else {
-            return false;
-        };
+    /// What lies behind closes up; old copies past the new end are left there. `None` where there is no such file.
+    pub fn delete(&mut self, sort: Sort, number: u16) -> Option<File> {
+        let place = self.list.iter().position(|file| file.is_named(sort, number))?;
         let old_end = DIRECTORY + self.used();
-        if is(M::DeleteMovesLastFileIntoTheGap) {
-            self.list.swap_remove(place);
-        } else {
-            self.list.remove(place);
-        }
+        let gone =
+            if is(M::DeleteMovesLastFileIntoTheGap) { self.list.swap_remove(place) } else { self.list.remove(place) };
         let mut at = DIRECTORY;
         for file in &self.list {
             for &byte in &file.bytes {
@@ -196,7 +191,7 @@ impl Files {
         } else {
             self.write_directory();
         }
-        true
+        Some(gone)
     }
 
     /// For the wrong versions that close a gap of one length whatever the record's was; the file is gone from the list.

@@ -94,8 +94,10 @@ pub fn random_queue(rng: &mut Prng) -> Queue {
 /// Any sound state that such a store does not refuse.
 pub fn random_state(rng: &mut Prng, height: u8, edition: u8, store: &[u8]) -> State {
     let mut state = State::at_start(height, edition);
+    let files = Files::read(store).expect("a good directory");
+    state.used = files.used() as u16;
     let text = &mut state.text;
-    let held = Files::read(store).expect("a good directory").list.iter().map(|file| file.number).collect::<Vec<_>>();
+    let held = files.list.iter().map(|file| file.number).collect::<Vec<_>>();
     text.font = rng.pick(&[1, 1, 2, 3, 4, 5, 6, 9, 258, 1024, 65535]);
     if !held.is_empty() && rng.percent(60) {
         text.font = rng.pick(&held);
@@ -125,13 +127,13 @@ pub fn random_state(rng: &mut Prng, height: u8, edition: u8, store: &[u8]) -> St
     (state.flow, state.full, state.empty) = (rng.percent(60), rng.below(41) as u8, rng.below(40) as u8);
     state.refusals = rng.pick(&[0, 5, 65530, 65535]);
     state.last_refusal = rng.pick(&[0, 16, 29]);
-    under_way(rng, &mut state, store);
+    under_way(rng, &mut state, &files);
     assert!(state.sound());
     state
 }
 
 /// A command, data or an upload in the middle.
-fn under_way(rng: &mut Prng, state: &mut State, store: &[u8]) {
+fn under_way(rng: &mut Prng, state: &mut State, files: &Files) {
     match rng.below(5) {
         0 => {
             let (code, _) = rng.pick(&COMMANDS);
@@ -154,7 +156,6 @@ fn under_way(rng: &mut Prng, state: &mut State, store: &[u8]) {
             let number = if state.edition == NEWER { rng.pick(&[40, 40, 400, NUMBER_MOST]) } else { 40 };
             let waited = rng.pick(&[0, 1, 1000, 2098, 2099]);
             let upload = Upload { sort, number, size, stored, echoed, waited };
-            let files = Files::read(store).expect("a good directory");
             if !files.upload_impossible(state.edition, &upload) {
                 state.upload = Some(upload);
             }

@@ -1,9 +1,11 @@
-//! What a piece and a time call ask of the memory lent to them: the answers 1 to 4, in order.
+//! What a piece and a time call ask of the memory lent to them: the answers 1 to 4, in order, and 3 for the used room.
 
+use crate::directory::DIRECTORY;
 use crate::files::{Files, STORE_LEAST, STORE_MOST};
 use crate::glass::{Glass, HEIGHTS, LOW};
 use crate::mutants::{is, Mutant as M};
-use crate::state::{Lent, State};
+use crate::state::{Lent, State, Upload};
+use crate::used::{self, Asking};
 
 pub fn store_fits(store: &[u8]) -> bool {
     (STORE_LEAST..=STORE_MOST).contains(&store.len())
@@ -15,7 +17,12 @@ pub fn no_glass_at_all(glass: &Glass) -> bool {
 }
 
 /// The files and the state of memory that holds to the rules; else the answer.
-pub fn accepted<'a>(glass: &Glass, store: &[u8], state: Lent<'a>) -> Result<(Files, &'a mut State), u8> {
+pub fn accepted<'a>(
+    glass: &Glass,
+    store: &[u8],
+    state: Lent<'a>,
+    asking: Asking,
+) -> Result<(Files, &'a mut State), u8> {
     if let Some(answer) = wrong_order(glass, store, &state) {
         return Err(answer);
     }
@@ -25,6 +32,9 @@ pub fn accepted<'a>(glass: &Glass, store: &[u8], state: Lent<'a>) -> Result<(Fil
     }
     if !glass.suits(height) && !(is(M::FeedTakesEitherGlass) && !no_glass_at_all(glass)) {
         return Err(1);
+    }
+    if is(M::UsedBeforeStore) && sum_differs(store, &state) {
+        return Err(3);
     }
     if !store_fits(store) {
         return Err(2);
@@ -41,11 +51,38 @@ pub fn accepted<'a>(glass: &Glass, store: &[u8], state: Lent<'a>) -> Result<(Fil
     if !state.sound_but_for_height() || (!state.thresholds_fit() && !is(M::ThresholdsUncheckedInRecord)) {
         return Err(3);
     }
-    let files = Files::read(store).ok_or(4)?;
-    match &state.upload {
-        Some(upload) if files.upload_impossible(state.edition, upload) => Err(4),
-        _ => Ok((files, state)),
+    if is(M::UsedBeforeDirectory) && used::differs_from_any(state, &store[..DIRECTORY]) {
+        return Err(3);
     }
+    let files = Files::read(store).ok_or(4)?;
+    if is(M::UsedBeforeRunningUpload) && state.used as usize != files.used() {
+        return Err(3);
+    }
+    if state.upload.is_some_and(|upload| impossible(&files, state, &upload)) {
+        return Err(4);
+    }
+    if is(M::UsedMendedInsteadOfRefused) {
+        state.used = files.used() as u16;
+    }
+    match used::refused(state, &files, asking) {
+        Some(answer) => Err(answer),
+        None => Ok((files, state)),
+    }
+}
+
+/// By the directory's own sum, whatever the record says.
+fn impossible(files: &Files, state: &State, upload: &Upload) -> bool {
+    if is(M::RunningUploadRoomByTheUsedRoom) {
+        let room = (files.raw.len() - DIRECTORY).saturating_sub(state.used as usize);
+        let of_one_byte = Upload { size: 1, ..*upload };
+        return files.upload_impossible(state.edition, &of_one_byte) || upload.size as usize > room;
+    }
+    files.upload_impossible(state.edition, upload)
+}
+
+/// For the wrong versions that look at the sum before they know that the store has a length for it.
+fn sum_differs(store: &[u8], state: &Lent) -> bool {
+    matches!(state, Lent::State(state) if used::differs_in(state, store))
 }
 
 /// The answer of a wrong version that looks at something else before the record's length and height.
@@ -68,7 +105,10 @@ fn wrong_order(glass: &Glass, store: &[u8], state: &Lent) -> Option<u8> {
         Lent::State(state) => (!state.sound() || !state.thresholds_fit(), !state.edition_known()),
         _ => (true, false),
     };
-    (is(M::FeedAllOfTheRecordFirst) && unsound || is(M::RecordEditionBeforeGlass) && unknown_edition).then_some(3)
+    let too_early = is(M::FeedAllOfTheRecordFirst) && unsound
+        || is(M::RecordEditionBeforeGlass) && unknown_edition
+        || is(M::UsedBeforeGlass) && sum_differs(store, state);
+    too_early.then_some(3)
 }
 
 /// For the wrong versions that obey a record of any height, or of any that suits the glass.

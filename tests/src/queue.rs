@@ -2,6 +2,7 @@
 
 use crate::mutants::{is, Mutant as M};
 use crate::state::State;
+use crate::used::beyond_every_area;
 
 pub const RING: usize = 80;
 
@@ -53,7 +54,8 @@ fn records_refused(state: Option<&State>, queue: &Option<&mut Queue>) -> bool {
 }
 
 pub fn arrive(state: Option<&State>, queue: Option<&mut Queue>, byte: u8) -> Arrived {
-    if records_refused(state, &queue) {
+    let held_to_an_area = is(M::ArriveHoldsUsedToAnArea) && state.is_some_and(beyond_every_area);
+    if records_refused(state, &queue) || held_to_an_area {
         return Arrived { answer: 3, signal: 0 };
     }
     let (state, queue) = (state.unwrap(), queue.unwrap());
@@ -82,7 +84,8 @@ pub fn arrive(state: Option<&State>, queue: Option<&mut Queue>, byte: u8) -> Arr
 }
 
 pub fn take(state: Option<&State>, queue: Option<&mut Queue>) -> Taken {
-    if records_refused(state, &queue) {
+    let held_to_an_area = is(M::TakeHoldsUsedToAnArea) && state.is_some_and(beyond_every_area);
+    if records_refused(state, &queue) || held_to_an_area {
         return Taken { answer: 3, byte: 0, signal: 0 };
     }
     let (state, queue) = (state.unwrap(), queue.unwrap());

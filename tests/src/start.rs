@@ -78,14 +78,17 @@ pub fn start(
     let Some(edition) = edition else {
         return 3;
     };
-    if Files::read(store).is_none() {
+    let Some(files) = Files::read(store) else {
         return 4;
+    };
+    if is(M::StartChecksTheUsedRoom) && state.used as usize != files.used() {
+        return 3;
     }
-    begun(height, edition, glass, state, queue);
+    begun(height, edition, glass, &files, state, queue);
     0
 }
 
-fn begun(height: u8, edition: u8, glass: &mut Glass, state: &mut State, queue: &mut Queue) {
+fn begun(height: u8, edition: u8, glass: &mut Glass, files: &Files, state: &mut State, queue: &mut Queue) {
     crate::mutants::forget();
     if is(M::StartLeavesGlass) {
         // the old picture stays
@@ -94,8 +97,9 @@ fn begun(height: u8, edition: u8, glass: &mut Glass, state: &mut State, queue: &
     } else {
         *glass = Glass::white(height);
     }
-    let (old_height, old_edition) = (state.height, state.edition);
+    let (old_height, old_edition, old_used) = (state.height, state.edition, state.used);
     *state = State::at_start(height, edition);
+    state.used_at_start(files, old_used);
     if is(M::StartScrollRowStays64) {
         state.text.scroll_row = 64;
     }

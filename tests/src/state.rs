@@ -4,6 +4,7 @@ use crate::commands::arguments;
 use crate::edition::{EDITIONS, NEWER};
 use crate::glass::{on_glass, HEIGHTS};
 use crate::mutants::{is, Mutant as M};
+use crate::used::beyond_every_area;
 
 /// What a file is, in whichever of the directory's kinds it is held.
 #[derive(Clone, Copy, Debug, PartialEq, Eq)]
@@ -134,9 +135,12 @@ pub struct State {
     pub empty: u8,
     pub refusals: u16,
     pub last_refusal: u8,
+    /// The sum of the files' sizes; only a piece and a time call have the directory to hold it against.
+    pub used: u16,
 }
 
 impl State {
+    /// On an empty store.
     pub fn at_start(height: u8, edition: u8) -> State {
         State {
             height,
@@ -159,6 +163,7 @@ impl State {
             empty: 0,
             refusals: 0,
             last_refusal: 0,
+            used: 0,
         }
     }
 
@@ -197,6 +202,7 @@ impl State {
             && self.inline.as_ref().is_none_or(Inline::sound)
             && self.upload.as_ref().is_none_or(Upload::sound)
             && self.under_way() <= 1
+            && !(is(M::UsedAboveEveryAreaIsUnsound) && beyond_every_area(self))
     }
 
     fn under_way(&self) -> usize {

@@ -38,7 +38,7 @@ pub fn trace(scene: &Scene) -> String {
             }
         };
         out += &format!("{next} {} {} {:?}\n", fed.answer, fed.consumed, fed.replies);
-        out += &format!("{} {}\n", board.state.refusals, board.state.last_refusal);
+        out += &format!("{} {} {}\n", board.state.refusals, board.state.last_refusal, board.state.used);
         left = &left[taken..];
         if fed.answer != 0 && fed.answer != 5 {
             break;
@@ -67,6 +67,7 @@ pub fn trace(scene: &Scene) -> String {
     out += &format!("{}\n", timed.answer);
     out += &format!("{}\n", start(own, &mut glass, &[1; 5], None, None));
     out += &other_heights(&board, &mut rng);
+    out += &other_sums(&board);
     out + &format!("{:?}\n{:?}\n", board.glass.to_bytes(), board.state)
 }
 
@@ -88,6 +89,20 @@ fn other_heights(board: &Board, rng: &mut Prng) -> String {
                 [rng.below(3)],
         };
         out += &format!("{} {:?} {:?}\n", other.start(given), other.state, other.glass.to_bytes());
+    }
+    out
+}
+
+/// Calls with a kept sum that is not the directory's.
+fn other_sums(board: &Board) -> String {
+    let mut out = String::new();
+    for used in [board.state.used ^ 1, board.state.used ^ 256, 0, 65535] {
+        let mut other = board.clone();
+        other.state.used = used;
+        let pieces = [other.feed(&[254, 88], 9), other.feed(&[], 0), other.feed(&[254, 88], 1)];
+        let times = [other.time(2100, 2), other.time(0, 1)];
+        out += &format!("{pieces:?} {times:?} {:?} {:?}\n", other.arrive(1), other.take());
+        out += &format!("{} {:?}\n", other.start(Choice::of(board.state.height, board.state.edition)), other.state);
     }
     out
 }

@@ -5,6 +5,7 @@ use crate::footprint::Footprint;
 use crate::machine::{Machine, Subject};
 use crate::mutants::{self, is, Mutant as M};
 use crate::state::{Sort, Upload};
+use crate::used::Moment;
 
 impl Machine<'_> {
     /// 36 and 94: 8 with the refusal, 1 when the data may come.
@@ -23,7 +24,9 @@ impl Machine<'_> {
             return Err(refusal);
         }
         self.replies.push(1);
-        self.state.upload = Some(Upload { waited: mutants::wait_at_start(), ..Upload::new(sort, number, size as u16) });
+        let upload = Upload { waited: mutants::wait_at_start(), ..Upload::new(sort, number, size as u16) };
+        self.state.used_by_upload(Moment::Begun, &upload);
+        self.state.upload = Some(upload);
         Ok(Footprint::Nothing)
     }
 
@@ -39,6 +42,7 @@ impl Machine<'_> {
                 upload.waited = 0;
             }
             self.replies.push(byte);
+            self.state.used_by_upload(Moment::Data, &upload);
             self.state.upload = Some(upload);
             return (Subject::UploadByte, Ok(Footprint::Nothing));
         };
@@ -57,6 +61,7 @@ impl Machine<'_> {
                     self.files.keep(&Upload { stored, ..upload }, 0);
                 }
             }
+            self.state.used_by_upload(Moment::Broken, &upload);
             return (Subject::UploadBroken, Err(26));
         }
         self.files.keep(&upload, data);
@@ -66,10 +71,12 @@ impl Machine<'_> {
             upload.waited = 0;
         }
         if upload.stored < upload.size {
+            self.state.used_by_upload(Moment::Confirmed, &upload);
             self.state.upload = Some(upload);
             return (Subject::UploadConfirmed, Ok(Footprint::Nothing));
         }
         self.files.finish(self.state.edition, &upload);
+        self.state.used_by_upload(Moment::Ended, &upload);
         (Subject::UploadFinished, Ok(Footprint::Nothing))
     }
 }

@@ -5,6 +5,7 @@ use crate::footprint::Footprint;
 use crate::machine::{Machine, Subject};
 use crate::mutants::{self, is, Mutant as M};
 use crate::state::{Gathering, Upload, WAIT_ENDS};
+use crate::used::Moment;
 
 impl Machine<'_> {
     /// The milliseconds add up; at the limit the upload goes in this very call.
@@ -22,6 +23,8 @@ impl Machine<'_> {
             return (Subject::Waited, Ok(Footprint::Nothing));
         }
         mutants::note_wait(M::WaitKeptAcrossADrop, 2000);
+        let upload = *upload;
+        self.state.used_by_upload(Moment::Dropped, &upload);
         self.dropped();
         if is(M::DropIsNoRefusal) {
             return (Subject::UploadDropped, Ok(Footprint::Nothing));

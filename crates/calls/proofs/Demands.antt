@@ -5,12 +5,12 @@ use mathlib.Core.List.{List, [], _∷_}
 use mathlib.Core.Bool.{Bool, true, false, cond, not, _&&_, _||_, true≢false}
 use Prim.Native.Nat.{ℕ, zero, suc, _<_, _≤_}
 use native.Mathlib.Omega.{arith}
-use lib.Dec.{eqb, ltb}
+use lib.Dec.{eqb, leb, ltb}
 use lib.ListN.{length, getD, take, replicate, length-replicate}
-use borrow.Author.Tests.{eq-eqb, eqb-true}
+use borrow.Author.Tests.{eq-eqb, eqb-true, leb-true}
 use Rattle.canvas.specs.Sizes.{isHeight, lengthFor}
 use Rattle.pixels.proofs.Tests.{by-test}
-use Rattle.directory.specs.Directory.{validOf}
+use Rattle.directory.specs.Directory.{entries, sizesIn, validOf}
 use Rattle.state.specs.declared.Phase.{Phase}
 use Rattle.state.specs.declared.Phase.the-variants.{Idle, Prefix, Gathering, Inline, Upload}
 use Rattle.refusals.specs.Refusals.{noGlyph}
@@ -23,19 +23,20 @@ use Rattle.state.specs.State.{config}
 use Rattle.queue.specs.Record as queue-record
 use Rattle.queue.specs.Record.{Bytes}
 use Rattle.record.specs.Layout.{recordSize}
-use Rattle.record.specs.Reading.{heightIn, editionIn, configIn, decodeOf}
+use Rattle.record.specs.Reading.{heightIn, editionIn, configIn, usedIn, decodeOf}
 use Rattle.record.specs.Writing.{encodeOf}
 use Rattle.record.specs.Record.{recognised, soundRecord}
 use Rattle.record.proofs.Bytes.{decoded-fits}
 use Rattle.record.proofs.Same.{both}
-use Rattle.record.proofs.Round.{decode-encode, encode-decode, encoded-sound, sound-recognised, passed, config-fits, shown}
+use Rattle.record.proofs.Round.{decode-encode, encode-decode, encoded-sound, sound-recognised, passed, config-fits, panel-used, shown}
 use Rattle.rules.specs.World.{World, height, edition, port}
-use Rattle.rules.specs.Files.{inUse, kindOf, lacksSpace}
+use Rattle.rules.specs.Files.{inUse, kindOf}
+use Rattle.rules.proofs.GoodStore.{tight}
 use Rattle.rules.specs.Step.{Input, outcome, step}
 use Rattle.rules.specs.History.{lastIn, lastOf}
 use Rattle.rules.specs.Calls.{run, taken}
 use Rattle.rules.specs.Chunks.{joined, EnoughAll}
-use Rattle.rules.specs.Sound.{Comes, ComesAll, highest, Welcome}
+use Rattle.rules.specs.Sound.{storeMost, Comes, ComesAll, highest, Welcome}
 use Rattle.rules.proofs.ByByte.{demand-3}
 use Rattle.rules.proofs.Replies.{said-fits}
 use Rattle.rules.proofs.Counts.{refusal-count, last-refusal}
@@ -83,7 +84,10 @@ welcome-passes e Prefix s h = refl
 welcome-passes e (Gathering code got) s h = refl
 welcome-passes e (Inline x1 y1 x2 y2 came) s h = refl
 welcome-passes e (Upload sort number size stored waiting held waited) s h =
-    all-false (ltb (highest e) number) (inUse s sort number) (lacksSpace s (kindOf e sort) size) (h .0) (h .1) (h .2)
+    all-false (ltb (highest e) number) (inUse s sort number) (tight s (kindOf e sort) size) (h .0) (h .1) (h .2)
+
+used-back : (w : World) → Kept w → usedIn (encodeOf (w .state)) ≡ sizesIn (entries (w .store))
+used-back w k = shown (w .state) (k .good .fits) .used ∙ k .good .sum
 
 pass : (w : World) → Kept w → checked (saved w) ≡ 0
 unfolding checked
@@ -101,6 +105,7 @@ pass w k =
       k .good .store .valid,
       d,
       u,
+      eq-eqb (usedIn (encodeOf (w .state))) (sizesIn (entries (w .store))) (used-back w k),
     )
 
 pub kept-run : (w : World) (l : List Input) → Kept w → ComesAll l → Kept (run w l)
@@ -144,9 +149,10 @@ neither : (v u : Bool) → (not v || u) ≡ false → (v ≡ true) × (u ≡ fal
 neither true u e = (refl, e)
 neither false u e = absurd (true≢false e)
 
-last-check : (t : Bool) (k : ℕ) → cond t (suc k) 0 ≡ 0 → t ≡ false
-last-check true k e = absurd (never k e)
-last-check false k e = refl
+-- one that asks whether something is wrong
+no-answer : (t : Bool) (k r : ℕ) → cond t (suc k) r ≡ 0 → (t ≡ false) × (r ≡ 0)
+no-answer true k r e = absurd (never k e)
+no-answer false k r e = (refl, e)
 
 pub record Checks (m : Memory) : Type 0 where
   pub framebuffer : length (m .framebuffer) ≡ lengthFor (heightIn (m .state))
@@ -154,6 +160,7 @@ pub record Checks (m : Memory) : Type 0 where
   pub state : soundRecord (m .state) ≡ true
   pub valid : validOf (m .store) ≡ true
   pub upload : uploadRefused (editionIn (m .state)) (m .store) (decodeOf (m .state) .port .line .phase) ≡ false
+  pub sum : usedIn (m .state) ≡ sizesIn (entries (m .store))
 
 pub checks : (m : Memory) → checked m ≡ 0 → Checks m
 unfolding checked
@@ -162,8 +169,17 @@ checks m e =
     let a = unanswered (framebufferFits (heightIn (m .state)) (m .framebuffer)) 0 _ (r .1) in
     let b = unanswered (storeFits (m .store)) 1 _ (a .1) in
     let c = unanswered (soundRecord (m .state)) 2 _ (b .1) in
-    let d = neither (validOf (m .store)) _ (last-check _ 3 (c .1)) in
-    record { framebuffer = eqb-true (length (m .framebuffer)) (lengthFor (heightIn (m .state))) (a .0); store = b .0; state = c .0; valid = d .0; upload = d .1 }
+    let d = no-answer _ 3 _ (c .1) in
+    let f = neither (validOf (m .store)) _ (d .0) in
+    let s = unanswered (eqb (usedIn (m .state)) (sizesIn (entries (m .store)))) 2 0 (d .1) in
+    record {
+      framebuffer = eqb-true (length (m .framebuffer)) (lengthFor (heightIn (m .state))) (a .0);
+      store = b .0;
+      state = c .0;
+      valid = f .0;
+      upload = f .1;
+      sum = eqb-true (usedIn (m .state)) (sizesIn (entries (m .store))) (s .0);
+    }
 
 none-of : (a b c : Bool) → (a || b || c) ≡ false → (a ≡ false) × (b ≡ false) × (c ≡ false)
 none-of true b c e = absurd (true≢false e)
@@ -175,7 +191,10 @@ passes-welcome e Idle s h = tt
 passes-welcome e Prefix s h = tt
 passes-welcome e (Gathering code got) s h = tt
 passes-welcome e (Inline x1 y1 x2 y2 came) s h = tt
-passes-welcome e (Upload sort number size stored waiting held waited) s h = none-of (ltb (highest e) number) (inUse s sort number) (lacksSpace s (kindOf e sort) size) h
+passes-welcome e (Upload sort number size stored waiting held waited) s h = none-of (ltb (highest e) number) (inUse s sort number) (tight s (kindOf e sort) size) h
+
+store-most : (s : List ℕ) → storeFits s ≡ true → length s ≤ storeMost
+store-most s e = leb-true (length s) storeMost (both (leb 1024 (length s)) (leb (length s) storeMost) e .1)
 
 pub checked-kept : (m : Memory) → ByteMemory m → checked m ≡ 0 → Kept (loaded m)
 unfolding decodeOf
@@ -188,9 +207,10 @@ checked-kept m b e =
         thresholds = p .thresholds;
         canonical = p .canonical;
         fits = decoded-fits (m .state) (b .state);
-        store = record { bytes = b .store; valid = c .valid };
+        store = record { bytes = b .store; valid = c .valid; most = store-most (m .store) (c .store) };
         framebuffer = b .framebuffer;
         upload = passes-welcome (editionIn (m .state)) (decodeOf (m .state) .port .line .phase) (m .store) (c .upload);
+        sum = sym (panel-used (m .state)) ∙ c .sum;
       };
       framebuffer = c .framebuffer;
       store = c .store;
@@ -222,6 +242,8 @@ served-saved w q cs k h =
       last = rw d i;
       never-28 = rw d (λ f g. never-run w l (port w .refusals .last) k b f (sym i ∙ g));
       config = ap (λ (m : Memory). configIn (m .state)) (s .left) ∙ config-back v (s .kept) ∙ config-run w l k b ∙ sym (config-back w k);
+      used = rw (s .left) (used-back v (s .kept));
+      used-along = rw d (λ n. kept-run w (take n l) k (take-comes n l b) .good .sum);
       again = ap checked (s .left) ∙ pass v (s .kept);
       line-again = λ f. both-true _ _ (ap (λ (m : Memory). soundRecord (m .state)) (s .left) ∙ record-sound v (s .kept)) (s .queue-kept f);
     }
@@ -285,7 +307,7 @@ start-kept h m q b e =
     let c = start-checks h m q e in
     let g : List ℕ = replicate (lengthFor (h .height)) 0 in
     record {
-      good = good-start h g (m .store) (c .known) (config-fits h (c .known)) (zeros (lengthFor (h .height))) b (c .valid);
+      good = good-start h g (m .store) (c .known) (config-fits h (c .known)) (zeros (lengthFor (h .height))) b (c .valid) (store-most (m .store) (c .store));
       framebuffer = length-replicate {A = ℕ} (lengthFor (h .height)) 0;
       store = c .store;
     }

@@ -6,24 +6,27 @@ use mathlib.Core.List.{List, [], _∷_}
 use Prim.Native.Nat.{ℕ}
 use lib.ListN.{set, replicate}
 use Rattle.canvas.specs.Sizes.{isHeight}
-use Rattle.directory.specs.Directory.{lengthOf, stepAt, readFrom, entriesFrom, bytesIn, sizesIn, keepRules, zeros, zerosFrom, validOf}
+use Rattle.directory.specs.Directory.{lengthOf, sortOf, stepAt, entryAt, readFrom, entriesFrom, bytesIn, sizesIn, hasFile, isFair, keepRules, zeros, zerosFrom, validOf}
 use Rattle.queue.specs.Record as queue-record
-use Rattle.state.specs.State.{config, startState}
+use Rattle.state.specs.declared.Phase.{Phase}
+use Rattle.state.specs.declared.Phase.the-variants.{Idle, Prefix, Gathering, Inline, Upload}
+use Rattle.state.specs.State.{noArgs, config, state, startPort, startPanel, startState, withPhase}
 use Rattle.state.specs.Editions.{isEdition}
-use Rattle.state.specs.Soundness.{every, soundPhase, soundText, soundPort, soundBar, soundStrip, soundPanel, soundConfig, soundState}
-use Rattle.state.specs.Canonical.{canonicalPhase, canonicalPort, canonicalBar, canonicalStrip, canonicalSerial, canonicalPanel, canonicalState}
+use Rattle.state.specs.Soundness.{every, soundInline, soundUpload, soundPhase, soundText, soundPort, soundBar, soundStrip, soundPanel, soundConfig, soundState}
+use Rattle.state.specs.Canonical.{canonicalUpload, canonicalPhase, canonicalPort, canonicalBar, canonicalStrip, canonicalSerial, canonicalPanel, canonicalState}
 use Rattle.record.specs.Layout.{heightAt, recordSize}
 use Rattle.record.specs.Reading.{manyOf, phaseOf, portOf, panelOf, decodeOf}
 use Rattle.record.specs.Writing.{manyBytes, phaseBytes, portBytes, panelBytes, encodeOf}
 use Rattle.record.specs.Record.{sameBytes, recognised, soundRecord}
 use Rattle.state.specs.Commands.{commandOf}
 use Rattle.rules.specs.Settings.{setSerial}
+use Rattle.rules.specs.Files.{lacksSpace}
 use Rattle.rules.specs.Step.{obey, code, argument, alone, byPhase, after, step, replies}
 use Rattle.rules.specs.Calls.{bytes, run, said, taken}
 use Rattle.calls.specs.Memory.{Memory, memory, checked}
 use Rattle.calls.specs.Start.{startChecked}
 use Rattle.calls.specs.Line.{bothSound}
-use Rattle.calls.specs.Feed.{feedOf, pieceOf}
+use Rattle.calls.specs.Feed.{feedOf, pieceOf, timeOf}
 
 -- white framebuffers
 abbrev low : List ℕ
@@ -40,7 +43,7 @@ abbrev queue : List ℕ
 queue = replicate 85 0
 
 abbrev started : ℕ → List ℕ
-started h = encodeOf (startState (config h 1))
+started h = encodeOf (startState (config h 1) 0)
 
 -- with another height
 abbrev saying : ℕ → List ℕ
@@ -101,6 +104,46 @@ with-store s = memory low s (started 64)
 pub checked-answers : (checked (with-store (9 ∷ replicate 1023 0)) ≡ 4) × (checked (with-store (replicate 1024 0)) ≡ 0) × (checked (memory tall (replicate 1024 0) (started 128)) ≡ 0)
 unfolding checked recognised isHeight soundRecord every soundState soundConfig isEdition soundPort soundPhase soundText soundPanel soundBar soundStrip canonicalState canonicalPort canonicalPhase canonicalPanel canonicalBar canonicalStrip canonicalSerial sameBytes decodeOf portOf phaseOf panelOf manyOf encodeOf portBytes phaseBytes panelBytes manyBytes validOf entriesFrom readFrom stepAt lengthOf bytesIn sizesIn keepRules zeros zerosFrom
 checked-answers = (refl, refl, refl)
+
+-- ---- the used room that a record keeps
+
+-- a store with bitmap 5 of 300 bytes, and a record that keeps u in phase f
+abbrev holding : List ℕ
+holding = 2 ∷ 5 ∷ 44 ∷ 1 ∷ replicate 1020 0
+
+abbrev keeping : Phase → ℕ → List ℕ
+keeping f u = encodeOf (state (config 64 1) (withPhase (startPort 64) f noArgs) (startPanel u))
+
+abbrev answer : Phase → ℕ → ℕ
+answer f u = checked (memory low holding (keeping f u))
+
+-- an upload that fits, and one of a number that is in use
+abbrev fitting : Phase
+fitting = Upload 2 6 468 3 true 9 0
+
+abbrev taken-number : Phase
+taken-number = Upload 2 5 3 0 false 0 0
+
+-- one less, one more, a low byte or a high byte alone, in each phase
+pub sums : (answer Idle 300 ≡ 0) × (answer Idle 299 ≡ 3) × (answer Idle 301 ≡ 3) × (answer Idle 44 ≡ 3) × (answer Idle 256 ≡ 3) × (answer Idle 0 ≡ 3)
+    × (answer Prefix 300 ≡ 0) × (answer Prefix 299 ≡ 3) × (answer (Gathering 98 0) 300 ≡ 0) × (answer (Gathering 98 0) 301 ≡ 3)
+    × (answer (Inline 0 0 8 1 3) 300 ≡ 0) × (answer (Inline 0 0 8 1 3) 299 ≡ 3) × (answer fitting 300 ≡ 0) × (answer fitting 301 ≡ 3)
+unfolding checked recognised isHeight soundRecord every soundState soundConfig isEdition soundPort soundPhase soundInline soundUpload commandOf soundText soundPanel soundBar soundStrip canonicalState canonicalPort canonicalPhase canonicalUpload canonicalPanel canonicalBar canonicalStrip canonicalSerial sameBytes decodeOf portOf phaseOf panelOf manyOf encodeOf portBytes phaseBytes panelBytes manyBytes validOf isFair entriesFrom readFrom stepAt entryAt lengthOf sortOf bytesIn sizesIn hasFile keepRules zeros zerosFrom lacksSpace
+sums = (refl, refl, refl, refl, refl, refl, refl, refl, refl, refl, refl, refl, refl, refl)
+
+-- the sum is asked last: a directory that breaks its rules, an upload that would be refused by the directory's own sum, a store or a framebuffer of another length
+-- come first, and 24 goes by the directory's own sum
+pub sums-order : (checked (memory low (9 ∷ replicate 1023 0) (keeping Idle 1)) ≡ 4) × (answer taken-number 299 ≡ 4) × (answer (Upload 2 6 469 0 false 0 0) 0 ≡ 4)
+    × (answer (Upload 2 6 468 0 false 0 0) 301 ≡ 3) × (checked (memory low (replicate 1023 0) (keeping Idle 1)) ≡ 2) × (checked (memory tall holding (keeping Idle 1)) ≡ 1)
+unfolding checked recognised isHeight soundRecord every soundState soundConfig isEdition soundPort soundPhase soundInline soundUpload commandOf soundText soundPanel soundBar soundStrip canonicalState canonicalPort canonicalPhase canonicalUpload canonicalPanel canonicalBar canonicalStrip canonicalSerial sameBytes decodeOf portOf phaseOf panelOf manyOf encodeOf portBytes phaseBytes panelBytes manyBytes validOf isFair entriesFrom readFrom stepAt entryAt lengthOf sortOf bytesIn sizesIn hasFile keepRules zeros zerosFrom lacksSpace
+sums-order = (refl, refl, refl, refl, refl, refl)
+
+-- before 5; an arrival and a take do not ask
+pub sums-elsewhere : (pieceOf (memory low holding (keeping Idle 299)) (254 ∷ []) 1 .answer ≡ 3) × (pieceOf (memory low holding (keeping Idle 299)) [] 0 .answer ≡ 3)
+    × (timeOf (memory low holding (keeping Idle 299)) 1 1 .answer ≡ 3) × (timeOf (memory low holding (keeping Idle 300)) 1 1 .answer ≡ 5)
+    × (bothSound (keeping Idle 299) queue ≡ true) × (bothSound (keeping Idle 65535) queue ≡ true)
+unfolding feedOf bytes taken checked recognised isHeight soundRecord queue-record.soundRecord queue-record.decodeOf every soundState soundConfig isEdition soundPort soundPhase soundText soundPanel soundBar soundStrip canonicalState canonicalPort canonicalPhase canonicalPanel canonicalBar canonicalStrip canonicalSerial sameBytes decodeOf portOf phaseOf panelOf manyOf encodeOf portBytes phaseBytes panelBytes manyBytes validOf isFair entriesFrom readFrom stepAt entryAt lengthOf sortOf bytesIn sizesIn hasFile keepRules zeros zerosFrom
+sums-elsewhere = (refl, refl, refl, refl, refl, refl)
 
 -- a byte needs two free reply bytes, whether it replies or not; those that a serial number took are free no longer
 pub piece-answers : (pieceOf (with-store (replicate 1024 0)) [] 0 .answer ≡ 0)

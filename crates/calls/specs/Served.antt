@@ -10,13 +10,15 @@ use Rattle.pixels.specs.Framebuffer.{On}
 use Rattle.bar_graph.specs.Bars.{rectangleOf}
 use Rattle.bar_ledger.specs.Claim.{Agrees}
 use Rattle.queue.specs.Record as queue-record
-use Rattle.record.specs.Reading.{configIn, decodeOf}
+use Rattle.directory.specs.Directory.{entries, sizesIn}
+use Rattle.record.specs.Reading.{configIn, usedIn, decodeOf}
 use Rattle.state.specs.State.{barAt}
 use Rattle.rules.specs.World.{port, panel}
 use Rattle.rules.specs.Step.{step}
 use Rattle.rules.specs.Calls.{run, said}
 use Rattle.rules.specs.Events.{view, event}
 use Rattle.rules.specs.History.{refusedOf, lastOf}
+use Rattle.rules.specs.Sound.{TrueSum}
 use Rattle.calls.specs.Memory.{checked, loaded, saved}
 use Rattle.calls.specs.Line.{bothSound}
 use Rattle.calls.specs.List.{Board, Call, afterAll, consumedAll, sentAll}
@@ -39,6 +41,9 @@ pub record Served (b : Board) (cs : List Call) : Type 0 where
   pub never-28 : (port (loaded (b .memory)) .refusals .last ≡ noGlyph → ⊥) → decodeOf (afterAll b cs .memory .state) .port .refusals .last ≡ noGlyph → ⊥
   -- height and edition stay
   pub config : configIn (afterAll b cs .memory .state) ≡ configIn (b .memory .state)
+  -- the used room that the record keeps is the directory's own sum, after them all and after every input
+  pub used : usedIn (afterAll b cs .memory .state) ≡ sizesIn (entries (afterAll b cs .memory .store))
+  pub used-along : (n : ℕ) → TrueSum (run (loaded (b .memory)) (take n (consumedAll b cs)))
   -- the next call passes the checks again: a piece, and an arrival or a take
   pub again : checked (afterAll b cs .memory) ≡ 0
   pub line-again : queue-record.soundRecord (b .queue) ≡ true → bothSound (afterAll b cs .memory .state) (afterAll b cs .queue) ≡ true

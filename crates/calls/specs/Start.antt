@@ -1,4 +1,5 @@
--- Starting with the board's choice of height and edition: a white framebuffer, the start's state, an empty queue; the store stays.
+-- Starting with the board's choice of height and edition: a white framebuffer, the start's state with the directory's own sum of file sizes, an empty queue; the store
+-- stays.
 -- Assumes nothing.
 use mathlib.Core.List.{List, [], _∷_, _++_}
 use mathlib.Core.Bool.{cond, not, _&&_}
@@ -6,7 +7,7 @@ use Prim.Native.Nat.{ℕ}
 use lib.Dec.{eqb}
 use lib.ListN.{length, take, replicate}
 use Rattle.canvas.specs.Sizes.{isHeight, lengthFor}
-use Rattle.directory.specs.Directory.{validOf}
+use Rattle.directory.specs.Directory.{entries, sizesIn, validOf}
 use Rattle.queue.specs.Record as queue-record
 use Rattle.state.specs.declared.Config.{Config}
 use Rattle.state.specs.Editions.{isEdition}
@@ -39,9 +40,9 @@ emptied q = take 80 q ++ (0 ∷ 0 ∷ 0 ∷ 0 ∷ 0 ∷ [])
 
 unfoldable pub startOf : Config → Memory → List ℕ → Started
 startOf c m q =
-    cond (eqb (startChecked c m q) 0) (started (memory (replicate (lengthFor (c .height)) 0) (m .store) (encodeOf (startState c))) (emptied q) 0)
+    cond (eqb (startChecked c m q) 0) (started (memory (replicate (lengthFor (c .height)) 0) (m .store) (encodeOf (startState c (sizesIn (entries (m .store)))))) (emptied q) 0)
     (started m q (startChecked c m q))
 
 -- the world that a start leaves
 abbrev pub startWorld : Config → List ℕ → World
-startWorld c s = world (replicate (lengthFor (c .height)) 0) s (startState c)
+startWorld c s = world (replicate (lengthFor (c .height)) 0) s (startState c (sizesIn (entries s)))

@@ -130,17 +130,17 @@ pub fn obey(
         Command::UploadFont => {
             let number = first_number(config.edition, a);
             let size = size_in(config.edition, a);
-            storage::begin_upload(store, port, config.edition, FONT, number, size)
+            storage::begin_upload(store, panel, port, config.edition, FONT, number, size)
         }
         Command::UploadBitmap => {
             let number = first_number(config.edition, a);
             let size = size_in(config.edition, a);
-            storage::begin_upload(store, port, config.edition, BITMAP, number, size)
+            storage::begin_upload(store, panel, port, config.edition, BITMAP, number, size)
         }
         Command::DeleteFile => {
-            storage::delete_file(store, port, a[0], second_number(config.edition, a))
+            storage::delete_file(store, panel, port, a[0], second_number(config.edition, a))
         }
-        Command::Purge => storage::purge(store, port, config.height, a[0], a[1]),
+        Command::Purge => storage::purge(store, panel, port, config.height, a[0], a[1]),
         Command::FlowOn => settings::flow_on(port, a[0], a[1]),
         Command::FlowOff => settings::flow_off(port),
         Command::SetContrast => settings::set_contrast(panel, port, a[0]),

@@ -2,7 +2,7 @@
 -- Assumes nothing.
 use mathlib.Core.Path.{_≡_, refl, sym, ap, _∙_}
 use mathlib.Core.List.{List}
-use mathlib.Core.Bool.{Bool, true, false, _&&_, not, and-true, and-false, and-assoc, false≢true}
+use mathlib.Core.Bool.{Bool, true, false, cond, _&&_, not, and-true, and-false, and-assoc, false≢true}
 use Prim.Native.Nat.{ℕ, zero, suc, _+_, _-_, _*_, _/_, _%_, _^_, _≤_, _<_}
 use native.Mathlib.Omega.{arith}
 use lib.ListN.{length, getD, replicate, length-set}
@@ -12,8 +12,9 @@ use borrow.Author.Tests.{eq-eqb, ne-eqb, lt-leb, leb-true}
 use Rattle.pixels.specs.Framebuffer.{bitOf}
 use Rattle.directory.specs.declared.Entry.{Entry}
 use Rattle.directory.specs.declared.Totals.{Totals}
+use Rattle.directory.specs.declared.Surveyed.{Surveyed}
 use Rattle.directory.specs.declared.Found.the-variants.{At, Nothing}
-use Rattle.directory.specs.Directory.{sortOf, maxNumber, maxRecords, stepAt, entryAt, entriesFrom, entries, bytesIn, sizesIn, totalsOf, isFile, hasFile, findIn, findOf, isFair, keepRules, zeros, zerosFrom, validOf}
+use Rattle.directory.specs.Directory.{sortOf, maxNumber, maxRecords, stepAt, entryAt, entriesFrom, entries, bytesIn, sizesIn, totalsOf, isFile, hasFile, findIn, findOf, isFair, keepRules, zeros, zerosFrom, validOf, surveyed, brokenSurvey, surveyOf}
 use Rattle.directory.proofs.Laws.{stands, none, more, kind-length}
 use Rattle.directory.proofs.Seen.{tableSize, mark, slot, Sort, entry-sort, fresh, fresh-all, fresh-mark}
 
@@ -132,6 +133,30 @@ short s h =
       lt-leb (256 + sizesIn (entries s)) (length s) (omega arith),
       and-false (zerosFrom (bytesIn (entries s)) s && leb (bytesIn (entries s)) maxRecords && keepRules (entries s)),
     )
+
+-- what comes of it
+pub surveyed-broken : (s : List ℕ) (r : Surveyed) → r ≡ brokenSurvey → false ≡ validOf s → r ≡ surveyOf s
+unfolding surveyOf
+surveyed-broken s r e h = e ∙ rw (← h)
+
+pub surveyed-valid : (s : List ℕ) (t : Totals) → true ≡ validOf s → t ≡ totalsOf (entries s) → surveyed true t ≡ surveyOf s
+unfolding surveyOf
+surveyed-valid s t h e = rw (← h, e)
+
+-- and what it says
+survey-test : (v : Bool) (t : Totals) → cond v (surveyed true t) brokenSurvey .valid ≡ v
+survey-test true t = refl
+survey-test false t = refl
+
+pub survey-says : (s : List ℕ) (r : Surveyed) → r ≡ surveyOf s → r .valid ≡ validOf s
+unfolding surveyOf
+survey-says s r e = ap (λ (x : Surveyed). x .valid) e ∙ survey-test (validOf s) (totalsOf (entries s))
+
+pub survey-totals : (s : List ℕ) (r : Surveyed) → r ≡ surveyOf s → r .valid ≡ true → r .totals ≡ totalsOf (entries s)
+unfolding surveyOf
+survey-totals s r e h =
+    let v : validOf s ≡ true = sym (survey-says s r e) ∙ h in
+    ap (λ (x : Surveyed). x .totals) e ∙ rw v
 
 turned : (a b c : Bool) → (a && (b && c)) ≡ ((c && a) && b)
 turned true b true = and-true b

@@ -9,6 +9,7 @@ use lib.Dec.{leb, eqb}
 use Rattle.refusals.specs.Refusals.{noSuchFile, accepted}
 use Rattle.directory.specs.declared.Entry.{Entry}
 use Rattle.directory.specs.declared.Totals.{Totals}
+use Rattle.directory.specs.declared.Surveyed.{Surveyed}
 use Rattle.directory.specs.declared.Found.{Found}
 use Rattle.directory.specs.declared.Found.the-variants.{At, Nothing}
 
@@ -93,6 +94,11 @@ abbrev pub foundNumber : Found → ℕ
 foundNumber (At position start size) = accepted
 foundNumber Nothing = noSuchFile
 
+-- the room that its file takes
+abbrev pub foundSize : Found → ℕ
+foundSize (At position start size) = size
+foundSize Nothing = 0
+
 -- no size 0, no number above the highest, and not font 1
 unfoldable pub isFair : Entry → Bool
 isFair e = not (eqb (e .size) 0) && leb (e .number) maxNumber && not (isFile e 1 1)
@@ -118,3 +124,13 @@ maxRecords = 255
 unfoldable pub validOf : List ℕ → Bool
 validOf s =
     zerosFrom (bytesIn (entries s)) s && leb (bytesIn (entries s)) maxRecords && keepRules (entries s) && leb (256 + sizesIn (entries s)) (length s)
+
+-- whether it does, and its totals if so
+abbrev pub surveyed : Bool → Totals → Surveyed
+surveyed v t = record { valid = v; totals = t }
+
+abbrev pub brokenSurvey : Surveyed
+brokenSurvey = surveyed false (record { end = 0; used = 0 })
+
+unfoldable pub surveyOf : List ℕ → Surveyed
+surveyOf s = cond (validOf s) (surveyed true (totalsOf (entries s))) brokenSurvey

@@ -4,7 +4,7 @@ ghost use mathlib.Core.Bool.{true, false, _&&_};
 ghost use Prim.Native.Nat.{_+_, _*_, _%_, _≤_, _<_, min};
 ghost use lib.Dec.{leb};
 ghost use lib.ListN.{length, getD, take, drop};
-ghost use Rattle.directory.specs.Directory.{isNewer, lengthOf, sortOf, stepAt, pairAt, entryAt, entries, totalsOf, isFile, findOf, isFair, zerosFrom, validOf};
+ghost use Rattle.directory.specs.Directory.{isNewer, lengthOf, sortOf, stepAt, pairAt, entryAt, entries, totalsOf, isFile, findOf, isFair, zerosFrom, brokenSurvey, surveyOf};
 
 // The directory's bytes; the file area lies behind them.
 pub const DIRECTORY: usize = 256;
@@ -49,6 +49,12 @@ pub struct Entry {
 pub struct Totals {
     pub end: usize,
     pub used: usize,
+}
+
+// Whether a directory keeps its rules, and what it comes to if it does.
+pub struct Surveyed {
+    pub valid: bool,
+    pub totals: Totals,
 }
 
 // The place of a record and of its file.
@@ -301,12 +307,21 @@ fn closes(store: &[u8], t: Totals) -> bool
     zeros_from(store, t.end)
 }
 
-// Whether the directory keeps its rules. One walk over the records, in which each file is marked in a table of those seen.
-pub fn is_valid(store: &[u8]) -> bool
-    ensures { λ r. ⌜ r ≡ validOf (now (store .entry)) ⌝ }
+fn broken() -> Surveyed
+    ensures { λ r. ⌜ r ≡ brokenSurvey ⌝ }
+{
+    Surveyed {
+        valid: false,
+        totals: Totals { end: 0, used: 0 },
+    }
+}
+
+// Whether the directory keeps its rules, and its totals. One walk over the records, in which each file is marked in a table of those seen.
+pub fn survey(store: &[u8]) -> Surveyed
+    ensures { λ r. ⌜ r ≡ surveyOf (now (store .entry)) ⌝ }
 {
     if store.len() < DIRECTORY {
-        return false;
+        return broken();
     }
     let mut seen = [0u8; SEEN];
     let mut p = 0;
@@ -314,15 +329,22 @@ pub fn is_valid(store: &[u8]) -> bool
     loop {
         let n = step_at(store, p);
         if n == 0 {
-            return closes(store, Totals { end: p, used });
+            let totals = Totals { end: p, used };
+            if !closes(store, totals) {
+                return broken();
+            }
+            return Surveyed {
+                valid: true,
+                totals,
+            };
         }
         let e = whole_entry(store, p, n);
         if !is_fair(e) {
-            return false;
+            return broken();
         }
         let i = slot(e);
         if (seen[i / 8] >> (7 - i % 8)) % 2 == 1 {
-            return false;
+            return broken();
         }
         seen[i / 8] = seen[i / 8] | (128u8 >> (i % 8));
         used += e.size;

@@ -3,16 +3,21 @@
 use mathlib.Core.Path.{_≡_, _∙_, refl, sym, ap}
 use mathlib.Core.List.{List, [], _∷_, _++_, append-nil}
 use mathlib.Core.Bool.{Bool, true, false, not}
-use Prim.Native.Nat.{ℕ}
+use Prim.Native.Nat.{ℕ, _<_}
+use lib.Dec.{leb}
 use native.Mathlib.Omega.{arith}
 use lib.ListN.{length, take, set, drop-of-length-le}
 use lib.Seq.{sets-eq}
-use borrow.Author.Tests.{eq-eqb, ne-eqb, not-true, not-false}
+use borrow.Author.Tests.{eq-eqb, ne-eqb, leb-true, not-true, not-false}
 use Rattle.pixels.specs.Framebuffer.{fill}
 use Rattle.pixels.specs.Regions.{everywhere}
 use Rattle.canvas.specs.Sizes.{isHeight, lengthFor}
 use Rattle.scroll.proofs.Bytes.{cleared-zeros}
-use Rattle.directory.specs.Directory.{validOf}
+use Rattle.directory.specs.declared.Totals.{Totals}
+use Rattle.directory.specs.declared.Surveyed.{Surveyed}
+use Rattle.directory.specs.Directory.{entries, sizesIn, totalsOf, validOf, surveyOf}
+use Rattle.directory.proofs.Walks.{survey-says, survey-totals}
+use Rattle.file_laws.proofs.Written.{valid}
 use Rattle.queue.specs.declared.Flow.{Flow}
 use Rattle.queue.specs.Record.{Served, served, arriveIn, takeIn}
 use Rattle.queue.proofs.Answers.{arrival-byte}
@@ -24,7 +29,9 @@ use Rattle.record.specs.Layout.{recordSize}
 use Rattle.record.specs.Reading.{decodeOf}
 use Rattle.record.specs.Writing.{encodeOf}
 use Rattle.record.specs.Record.{encodedIn, soundRecord}
+use Rattle.record.proofs.Same.{both}
 use Rattle.record.proofs.Whole.{written-whole}
+use Rattle.rules.specs.Sound.{storeMost}
 use Rattle.calls.specs.Memory.{memory, storeFits}
 use Rattle.calls.specs.Start.{started, startChecked, startOf, emptied}
 use Rattle.calls.specs.Line.{arriveCall, takeCall}
@@ -35,6 +42,14 @@ pub emptied-is : (q : List ℕ) → length q ≡ 85 → set (set (set (set (set 
 emptied-is q e =
     sets-eq (0 ∷ 0 ∷ 0 ∷ 0 ∷ 0 ∷ []) q 80 (omega (arith, e)) ∙ ap (λ (l : List ℕ). take 80 q ++ (0 ∷ 0 ∷ 0 ∷ 0 ∷ 0 ∷ []) ++ l) (drop-of-length-le q {i = 85} (omega (arith, e)))
     ∙ append-nil (emptied q)
+
+-- two bytes hold what the files of a store use
+pub start-used : (s : List ℕ) (t : Bool) (y : Surveyed) → t ≡ storeFits s → not t ≡ false → y ≡ surveyOf s → not (y .valid) ≡ false → y .totals .used < 65536
+start-used s t y fits fine surveyed n =
+    let y-valid = not-false (y .valid) n in
+    let v : validOf s ≡ true = sym (survey-says s y surveyed) ∙ y-valid in
+    let most = leb-true (length s) storeMost (both (leb 1024 (length s)) (leb (length s) storeMost) (sym fits ∙ not-false t fine) .1) in
+    omega (arith, ap (λ (x : Totals). x .used) (survey-totals s y surveyed y-valid), valid s v .room, most)
 
 module _ (h : Config) (g s st q : List ℕ) (k : Bool) (known : k ≡ isHeight (h .height)) where
   pub start-3 : not k ≡ true → started (memory g s st) q 3 ≡ startOf h (memory g s st) q
@@ -79,8 +94,8 @@ module _ (h : Config) (g s st q : List ℕ) (k : Bool) (known : k ≡ isHeight (
                   n,
                 )
 
-            module _ (there : not e ≡ false) (v : Bool) (valid : v ≡ validOf s) where
-              pub start-4 : not v ≡ true → started (memory g s st) q 4 ≡ startOf h (memory g s st) q
+            module _ (there : not e ≡ false) (y : Surveyed) (surveyed : y ≡ surveyOf s) where
+              pub start-4 : not (y .valid) ≡ true → started (memory g s st) q 4 ≡ startOf h (memory g s st) q
               unfolding startOf startChecked
               start-4 n =
                   rw (
@@ -94,16 +109,21 @@ module _ (h : Config) (g s st q : List ℕ) (k : Bool) (known : k ≡ isHeight (
                     fine,
                     ← named,
                     there,
-                    ← valid,
+                    ← survey-says s y surveyed,
                     n,
                   )
 
-              pub start-0 : (g' st' q' : List ℕ) (a : State) → not v ≡ false → g' ≡ fill everywhere false g → a ≡ startState h → st' ≡ encodedIn a st → q' ≡ emptied q
+              totals : not (y .valid) ≡ false → y .totals ≡ totalsOf (entries s)
+              totals n = survey-totals s y surveyed (not-false (y .valid) n)
+
+              pub start-0 : (g' st' q' : List ℕ) (a : State) → not (y .valid) ≡ false → g' ≡ fill everywhere false g → a ≡ startState h (y .totals .used) → st' ≡ encodedIn a st → q' ≡ emptied q
                   → started (memory g' s st') q' 0 ≡ startOf h (memory g s st) q
               unfolding startOf startChecked
               start-0 g' st' q' a n eg ea es eq =
-                  let wrote : st' ≡ encodeOf (startState h) =
-                  es ∙ ap (λ (x : State). encodedIn x st) ea ∙ written-whole (startState h) st (record { args = refl; bars = refl; strips = refl }) record-size in
+                  let u = sizesIn (entries s) in
+                  let fresh : a ≡ startState h u = ea ∙ ap (λ (x : Totals). startState h (x .used)) (totals n) in
+                  let wrote : st' ≡ encodeOf (startState h u) =
+                  es ∙ ap (λ (x : State). encodedIn x st) fresh ∙ written-whole (startState h u) st (record { args = refl; bars = refl; strips = refl }) record-size in
                   rw (
                     ← known,
                     not-false k is,
@@ -115,7 +135,7 @@ module _ (h : Config) (g s st q : List ℕ) (k : Bool) (known : k ≡ isHeight (
                     fine,
                     ← named,
                     there,
-                    ← valid,
+                    ← survey-says s y surveyed,
                     n,
                     eg ∙ cleared-zeros g z size,
                     wrote,

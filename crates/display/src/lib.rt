@@ -1,7 +1,7 @@
 // The five calls of a board: start, feed, time, arrive, take. Any bytes, of any length, may be lent to them.
 use canvas::is_height;
 use canvas::length_for;
-use directory::is_valid;
+use directory::survey;
 use feed::BAD_DIRECTORY;
 use feed::BAD_FRAMEBUFFER;
 use feed::BAD_RECORD;
@@ -39,7 +39,7 @@ fn empty_queue(queue: &mut [u8])
     queue[LOST_HIGH] = 0;
 }
 
-// A white framebuffer of so many rows, the start's state in an edition of the upload protocol, an empty queue; the store stays.
+// A white framebuffer of so many rows, the start's state in an edition of the upload protocol with what the files of the store use, an empty queue; the store stays.
 #[no_mangle]
 pub extern "C" fn display_start(
     height: u32,
@@ -70,14 +70,17 @@ pub extern "C" fn display_start(
     if !is_edition(edition) {
         return BAD_RECORD;
     }
-    if !is_valid(store) {
+    let surveyed = survey(store);
+    if !surveyed.valid {
         return BAD_DIRECTORY;
     }
     scroll::clear(framebuffer);
-    let s = start_state(Config {
+    let config = Config {
         height: rows,
         edition: edition as u8,
-    });
+    };
+    let totals = surveyed.totals;
+    let s = start_state(config, totals.used as u16);
     record_write::encode(s, state);
     empty_queue(queue);
     DONE

@@ -10,9 +10,13 @@ use lib.Dec.{eqb, leb, ltb}
 use lib.ListN.{length, getD, take, drop, length-drop, length-append, take-append-drop, drop-of-length-le}
 use lib.Seq.{sets, sets-eq, take-all, drop-at, drop-cons, drop-drop, drop-append-le, getD-take, length-take-le}
 use borrow.Rule.Slice.PartMut.{putMid, midOf}
-use borrow.Author.Tests.{eq-eqb, ne-eqb, le-leb, lt-leb, lt-ltb, le-ltb}
+use borrow.Author.Tests.{eq-eqb, ne-eqb, le-leb, lt-leb, lt-ltb, le-ltb, not-false}
 use Rattle.canvas.specs.Sizes.{lengthFor}
-use Rattle.directory.specs.Directory.{validOf}
+use Rattle.directory.specs.declared.Totals.{Totals}
+use Rattle.directory.specs.declared.Surveyed.{Surveyed}
+use Rattle.directory.specs.Directory.{entries, sizesIn, totalsOf, validOf, surveyOf}
+use Rattle.directory.proofs.Walks.{survey-says, survey-totals}
+use Rattle.files.specs.Files.{unusedOf}
 use Rattle.state.specs.declared.Phase.{Phase}
 use Rattle.state.specs.declared.Phase.the-variants.{Upload}
 use Rattle.state.specs.declared.Config.{Config}
@@ -21,7 +25,7 @@ use Rattle.state.specs.declared.State.{State}
 use Rattle.state.specs.State.{state}
 use Rattle.state.specs.Fits.{Fits}
 use Rattle.record.specs.Layout.{phaseAt, portSize, editionAt, panelAt, panelSize, recordSize}
-use Rattle.record.specs.Reading.{portOf, panelOf, heightIn, editionIn, configIn, decodeOf}
+use Rattle.record.specs.Reading.{portOf, panelOf, heightIn, editionIn, configIn, usedIn, decodeOf}
 use Rattle.record.specs.Writing.{portBytes, panelBytes, encodeOf, over}
 use Rattle.record.specs.Record.{recognised, soundRecord}
 use Rattle.record.proofs.Bytes.{decoded-fits}
@@ -30,7 +34,7 @@ use Rattle.record.proofs.Round.{passed}
 use Rattle.record.proofs.Whole.{length-port}
 use Rattle.rules.specs.World.{World, world}
 use Rattle.rules.specs.Files.{inUse, kindOf, lacksSpace}
-use Rattle.rules.specs.Sound.{highest}
+use Rattle.rules.specs.Sound.{storeMost, highest}
 use Rattle.rules.specs.Step.{Input, time, outcome, sent, step, replies}
 use Rattle.rules.specs.Calls.{run, said, taken}
 use Rattle.rules.proofs.Replies.{replies-most, said-fits}
@@ -49,12 +53,13 @@ use Rattle.feed.proofs.Feeding.{stepped}
 pub store-short : (s : List ℕ) → length s < 1024 → false ≡ storeFits s
 store-short s l = rw (lt-leb 1024 (length s) l)
 
-pub store-long : (s : List ℕ) → 1024 ≤ length s → leb (length s) 32768 ≡ storeFits s
+pub store-long : (s : List ℕ) → 1024 ≤ length s → leb (length s) storeMost ≡ storeFits s
 store-long s l = rw (le-leb 1024 (length s) l)
 
-pub blocked-is : (d : ℕ) (s : List ℕ) (f : Phase) (k n z t : ℕ) (v : Bool) (c m : ℕ) (r : Bool) → f ≡ Upload k n z t v c m
-    → r ≡ (ltb (highest d) n || inUse s k n || lacksSpace s (kindOf d k) z) → r ≡ uploadRefused d s f
-blocked-is d s f k n z t v c m r e o = o ∙ ap (uploadRefused d s) (sym e)
+pub blocked-is : (d : ℕ) (s : List ℕ) (y : Totals) (f : Phase) (k n z t : ℕ) (v : Bool) (c m : ℕ) (r : Bool) → y ≡ totalsOf (entries s) → f ≡ Upload k n z t v c m
+    → r ≡ (ltb (highest d) n || inUse s k n || lacksSpace (y .end) (unusedOf s (y .used)) (kindOf d k) z) → r ≡ uploadRefused d s f
+blocked-is d s y f k n z t v c m r ey e o =
+    o ∙ ap (λ (x : Totals). ltb (highest d) n || inUse s k n || lacksSpace (x .end) (unusedOf s (x .used)) (kindOf d k) z) ey ∙ ap (uploadRefused d s) (sym e)
 
 module _ (g s st : List ℕ) (k : Bool) (known : k ≡ recognised st) where
   pub check-3-first : not k ≡ true → 3 ≡ checked (memory g s st)
@@ -79,23 +84,66 @@ module _ (g s st : List ℕ) (k : Bool) (known : k ≡ recognised st) where
         unfolding checked
         check-3 n = rw (← known, is, long, eq-eqb (length g) z size, ← fits, fine, ← sound, n)
 
-        module _ (true-record : not u ≡ false) (v : Bool) (valid : v ≡ validOf s) where
-          pub check-4 : not v ≡ true → 4 ≡ checked (memory g s st)
+        module _ (true-record : not u ≡ false) (y : Surveyed) (surveyed : y ≡ surveyOf s) where
+          pub check-4 : not (y .valid) ≡ true → 4 ≡ checked (memory g s st)
           unfolding checked
-          check-4 n = rw (← known, is, long, eq-eqb (length g) z size, ← fits, fine, ← sound, true-record, ← valid, n)
+          check-4 n = rw (← known, is, long, eq-eqb (length g) z size, ← fits, fine, ← sound, true-record, ← survey-says s y surveyed, n)
 
-          module _ (orderly : not v ≡ false) (f : Phase) (b : Bool) (read : f ≡ portOf st .line .phase) (blocked : b ≡ uploadRefused (h .edition) s f) where
+          module _ (orderly : not (y .valid) ≡ false) (f : Phase) (b : Bool) (read : f ≡ portOf st .line .phase) (blocked : b ≡ uploadRefused (h .edition) s f) where
             in-record : b ≡ uploadRefused (editionIn st) s (decodeOf st .port .line .phase)
             unfolding decodeOf
             in-record = blocked ∙ ap (λ (x : Config). uploadRefused (x .edition) s f) read-config ∙ ap (uploadRefused (editionIn st) s) read
 
             pub check-4-upload : b ≡ true → 4 ≡ checked (memory g s st)
             unfolding checked
-            check-4-upload n = rw (← known, is, long, eq-eqb (length g) z size, ← fits, fine, ← sound, true-record, ← valid, orderly, ← in-record, n)
+            check-4-upload n = rw (← known, is, long, eq-eqb (length g) z size, ← fits, fine, ← sound, true-record, ← survey-says s y surveyed, orderly, ← in-record, n)
 
-            pub check-0 : b ≡ false → 0 ≡ checked (memory g s st)
-            unfolding checked
-            check-0 n = rw (← known, is, long, eq-eqb (length g) z size, ← fits, fine, ← sound, true-record, ← valid, orderly, ← in-record, n)
+            -- x the used room that the record keeps
+            module _ (free : b ≡ false) (x : ℕ) (kept : x ≡ usedIn st) where
+              own : sizesIn (entries s) ≡ y .totals .used
+              own = sym (ap (λ (t : Totals). t .used) (survey-totals s y surveyed (not-false (y .valid) orderly)))
+
+              pub check-3-sum : (x ≡ y .totals .used → ⊥) → 3 ≡ checked (memory g s st)
+              unfolding checked
+              check-3-sum n =
+                  rw (
+                    ← known,
+                    is,
+                    long,
+                    eq-eqb (length g) z size,
+                    ← fits,
+                    fine,
+                    ← sound,
+                    true-record,
+                    ← survey-says s y surveyed,
+                    orderly,
+                    ← in-record,
+                    free,
+                    ← kept,
+                    own,
+                    ne-eqb x (y .totals .used) n,
+                  )
+
+              pub check-0 : x ≡ y .totals .used → 0 ≡ checked (memory g s st)
+              unfolding checked
+              check-0 n =
+                  rw (
+                    ← known,
+                    is,
+                    long,
+                    eq-eqb (length g) z size,
+                    ← fits,
+                    fine,
+                    ← sound,
+                    true-record,
+                    ← survey-says s y surveyed,
+                    orderly,
+                    ← in-record,
+                    free,
+                    ← kept,
+                    own,
+                    eq-eqb x (y .totals .used) n,
+                  )
 
 pub read-both : (st : List ℕ) (h : Config) (t : Port) → h ≡ configIn st → t ≡ portOf st → (h ≡ configIn st) × (t .line .phase ≡ portOf st .line .phase)
 read-both st h t e f = (e, ap (λ (x : Port). x .line .phase) f)

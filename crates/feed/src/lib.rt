@@ -1,6 +1,7 @@
 // What comes in over lent memory, a piece of the stream or time: checked, obeyed as far as the reply room goes, and written back.
 use canvas::length_for;
-use directory::is_valid;
+use directory::Totals;
+use directory::survey;
 use interpreter::pass;
 use interpreter::step;
 use outcome::Reply;
@@ -8,6 +9,7 @@ use record::PANEL;
 use record::RECORD;
 use record::config_in;
 use record::decode_port;
+use record::used_in;
 use record_write::encode_port;
 use state::Config;
 use state::Phase;
@@ -19,6 +21,7 @@ ghost use mathlib.Core.Path.{_≡_};
 ghost use Prim.Native.Nat.{_+_, _≤_};
 ghost use lib.ListN.{length, drop};
 ghost use lib.Seq.{sets};
+ghost use Rattle.directory.specs.Directory.{entries, totalsOf};
 ghost use Rattle.state.specs.State.{state};
 ghost use Rattle.record.specs.Layout.{panelAt, recordSize};
 ghost use Rattle.record.specs.Reading.{portOf, panelOf, configIn};
@@ -166,7 +169,8 @@ pub fn store_fits(store: &[u8]) -> bool
 }
 
 // Whether an upload under way would now be refused.
-fn is_blocked(store: &[u8], edition: u8, phase: Phase) -> bool
+fn is_blocked(store: &[u8], totals: Totals, edition: u8, phase: Phase) -> bool
+    requires { ⌜ totals ≡ totalsOf (entries (now store)) ⌝ }
     ensures { λ r. ⌜ r ≡ uploadRefused edition (now (store .entry)) phase ⌝ }
 {
     match phase {
@@ -188,7 +192,7 @@ fn is_blocked(store: &[u8], edition: u8, phase: Phase) -> bool
             waiting: _,
             byte: _,
             waited: _,
-        } => is_turned_away(store, edition, sort, number, size),
+        } => is_turned_away(store, totals, edition, sort, number, size),
     }
 }
 
@@ -209,11 +213,16 @@ fn check(framebuffer: &[u8], store: &[u8], state: &[u8], config: Config, phase: 
     if !record_check::is_record(state) {
         return BAD_RECORD;
     }
-    if !is_valid(store) {
+    let surveyed = survey(store);
+    if !surveyed.valid {
         return BAD_DIRECTORY;
     }
-    if is_blocked(store, config.edition, phase) {
+    let totals = surveyed.totals;
+    if is_blocked(store, totals, config.edition, phase) {
         return BAD_DIRECTORY;
+    }
+    if used_in(state) as usize != totals.used {
+        return BAD_RECORD;
     }
     DONE
 }

@@ -58,7 +58,7 @@ find-split [] p a k n h = absurd (false≢true h)
 find-split (e ∷ es) p a k n h = find-cons (isFile e k n) e es p a k n refl (λ g. find-split es (p + lengthOf (e .kind)) (a + e .size) k n g) h
 
 module _ (s : List ℕ) (b : Bytes s) (v : validOf s ≡ true) (k n : ℕ) (has : hasFile (entries s) k n ≡ true) where
-  found : findOf s k n ≡ At (bytesIn (before (entries s) k n)) (256 + sizesIn (before (entries s) k n)) (sizeOf (entries s) k n)
+  pub found : findOf s k n ≡ At (bytesIn (before (entries s) k n)) (256 + sizesIn (before (entries s) k n)) (sizeOf (entries s) k n)
   found = find-split (entries s) 0 256 k n has ∙ (let x : 0 + bytesIn (before (entries s) k n) ≡ bytesIn (before (entries s) k n) = omega arith in rw x)
 
   pub delete-answers : deletes s k n ≡ true
@@ -102,26 +102,26 @@ module _ (s : List ℕ) (b : Bytes s) (v : validOf s ≡ true) (k c : ℕ) where
   long : length (directoryOf (entries s)) ≡ 256
   long = directory-long (entries s) (formed s b (long-enough s v) 0 .proper) (omega (arith, formed s b (long-enough s v) 0 .fits (omega arith)))
 
-  pub store-means : storedByte s k c ≡ directoryOf (entries s) ++ set (drop 256 s) (sizesIn (entries s) + k) c
+  pub store-means : storedByte s (sizesIn (entries s)) k c ≡ directoryOf (entries s) ++ set (drop 256 s) (sizesIn (entries s) + k) c
   store-means =
       ap (λ (x : List ℕ). set x (256 + sizesIn (entries s) + k) c) (canonical s b (long-enough s v) v)
       ∙ set-right (directoryOf (entries s)) (drop 256 s) (sizesIn (entries s) + k) (256 + sizesIn (entries s) + k) c (omega (arith, long))
 
-  pub entries-stored : entries (storedByte s k c) ≡ entries s
+  pub entries-stored : entries (storedByte s (sizesIn (entries s)) k c) ≡ entries s
   entries-stored =
       rw store-means (entries-written (entries s) _ (formed s b (long-enough s v) 0 .proper) (omega (arith, formed s b (long-enough s v) 0 .fits (omega arith))))
 
-  pub valid-stored : validOf (storedByte s k c) ≡ true
+  pub valid-stored : validOf (storedByte s (sizesIn (entries s)) k c) ≡ true
   valid-stored =
       rw store-means (valid-written (entries s) _ (formed s b (long-enough s v) 0 .proper) (valid s v .within) (valid s v .rules) (omega (arith, length-set (drop 256 s) (sizesIn (entries s) + k) c, length-drop 256 s, valid s v .room)))
 
   -- it changes no file
-  pub file-stored : (k′ n′ : ℕ) → fileOf (storedByte s k c) k′ n′ ≡ fileOf s k′ n′
+  pub file-stored : (k′ n′ : ℕ) → fileOf (storedByte s (sizesIn (entries s)) k c) k′ n′ ≡ fileOf s k′ n′
   file-stored k′ n′ =
       let u = sizesIn (entries s) in
       let a : List ℕ = drop 256 s in
       let la : length (take u a) ≡ u = length-take-le u a (omega (arith, length-drop 256 s, valid s v .room)) in
-      let d : drop 256 (storedByte s k c) ≡ set a (u + k) c = rw store-means (drop-at (directoryOf (entries s)) _ 256 long) in
+      let d : drop 256 (storedByte s (sizesIn (entries s)) k c) ≡ set a (u + k) c = rw store-means (drop-at (directoryOf (entries s)) _ 256 long) in
       let p : set a (u + k) c ≡ take u a ++ set (drop u a) k c =
       ap (λ (x : List ℕ). set x (u + k) c) (sym (take-append-drop u a)) ∙ set-right (take u a) (drop u a) k (u + k) c (omega (arith, la)) in
       rw (entries-stored, d, p)

@@ -89,7 +89,7 @@ unfolding isFair
 fair e z n f = rw (z, le-leb (e .number) maxNumber n, f)
 
 pub valid-more : (s : List ℕ) (e : Entry) → Bytes s → 256 ≤ length s → validOf s ≡ true → Proper e → bytesIn (entries s) + lengthOf (e .kind) ≤ maxRecords
-    → isFair e ≡ true → hasFile (entries s) (sortOf (e .kind)) (e .number) ≡ false → e .size ≤ unusedOf s → validOf (withRecord s e) ≡ true
+    → isFair e ≡ true → hasFile (entries s) (sortOf (e .kind)) (e .number) ≡ false → e .size ≤ unusedOf s (sizesIn (entries s)) → validOf (withRecord s e) ≡ true
 unfolding withRecord sizesIn
 valid-more s e b l v p r f g z =
     let es = entries s in

@@ -95,21 +95,12 @@ module _ (s : List ℕ) (k n : ℕ) (t : Totals) (et : t ≡ totalsOf (entries s
 
 -- ---- the others
 
-pub unused-some : (s : List ℕ) (t : Totals) → t ≡ totalsOf (entries s) → length s - (256 + t .used) ≡ unusedOf s
-unused-some s t e = rw (used-is t _ e)
-
-pub unused-none : (s : List ℕ) (t : Totals) → t ≡ totalsOf (entries s) → length s ≤ 256 + t .used → 0 ≡ unusedOf s
-unused-none s t e h = omega (arith, used-is t _ e)
-
 pub purge-is : (s s′ : List ℕ) (n : ℕ) → n ≡ min 256 (length s) → s′ ≡ paste s 0 (replicate n 0) n → s′ ≡ purged s
 unfolding purged
 purge-is s s′ n e h = h ∙ rw e
 
-pub stored-in : (s : List ℕ) (t : Totals) (k b : ℕ) → t ≡ totalsOf (entries s) → set s (256 + t .used + k) b ≡ storedByte s k b
-stored-in s t k b e = rw (used-is t _ e)
-
-pub stored-out : (s : List ℕ) (t : Totals) (k b : ℕ) → t ≡ totalsOf (entries s) → length s ≤ 256 + t .used + k → s ≡ storedByte s k b
-stored-out s t k b e h = sym (set-out s (256 + sizesIn (entries s) + k) b (omega (arith, used-is t _ e)))
+pub stored-out : (s : List ℕ) (u k b : ℕ) → length s ≤ 256 + u + k → s ≡ storedByte s u k b
+stored-out s u k b h = sym (set-out s (256 + u + k) b h)
 
 -- ---- append
 

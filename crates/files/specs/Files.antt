@@ -13,9 +13,9 @@ use Rattle.directory.specs.declared.Found.the-variants.{At, Nothing}
 use Rattle.directory.specs.Directory.{isNewer, lengthOf, entries, bytesIn, sizesIn, findOf}
 use Rattle.files.specs.Moves.{closed}
 
--- the room of the file area that no file uses
-abbrev pub unusedOf : List ℕ → ℕ
-unusedOf s = length s - (256 + sizesIn (entries s))
+-- the room of the file area that files of so many bytes together leave
+abbrev pub unusedOf : List ℕ → ℕ → ℕ
+unusedOf s used = length s - (256 + used)
 
 abbrev pub entry : ℕ → ℕ → ℕ → Entry
 entry k n z = record { kind = k; number = n; size = z }
@@ -56,6 +56,6 @@ deleted s k n =
 unfoldable pub purged : List ℕ → List ℕ
 purged s = paste s 0 (replicate (min 256 (length s)) 0) (min 256 (length s))
 
--- byte number k behind the last file; beyond the store nothing
-abbrev pub storedByte : List ℕ → ℕ → ℕ → List ℕ
-storedByte s k b = set s (256 + sizesIn (entries s) + k) b
+-- byte number k behind files of so many bytes; beyond the store nothing
+abbrev pub storedByte : List ℕ → ℕ → ℕ → ℕ → List ℕ
+storedByte s used k b = set s (256 + used + k) b

@@ -17,17 +17,15 @@ ghost use Rattle.files.specs.Moves.{closed};
 ghost use Rattle.directory.specs.Directory.{isNewer, lengthOf};
 ghost use Rattle.files.specs.Files.{unusedOf, entry, recordBytes, appended, deletes, deleted, purged, storedByte};
 
-// The room of the file area that no file uses.
-pub fn unused(store: &[u8]) -> usize
-    ensures { λ r. ⌜ r ≡ unusedOf (now (store .entry)) ⌝ }
+// The room of the file area that files of so many bytes together leave.
+pub fn unused(store: &[u8], used: usize) -> usize
+    ensures { λ r. ⌜ r ≡ unusedOf (now (store .entry)) used ⌝ }
 {
-    let t = tally(store);
-    let top = DIRECTORY + t.used;
-    if top < store.len() {
-        store.len() - top
-    } else {
-        0
+    if store.len() < DIRECTORY {
+        return 0;
     }
+    let area = store.len() - DIRECTORY;
+    if used < area { area - used } else { 0 }
 }
 
 // n bytes from byte `from` on, moved down to byte `to`.
@@ -143,12 +141,11 @@ pub fn purge(store: &mut [u8])
     zero(store, 0, n);
 }
 
-// Byte number k behind the last file; beyond the store nothing.
-pub fn store_byte(store: &mut [u8], k: u16, byte: u8)
-    ensures { λ _. ⌜ now (store .exit) ≡ storedByte (now (store .entry)) k byte ⌝ }
+// Byte number k behind files of so many bytes; beyond the store nothing.
+pub fn store_byte(store: &mut [u8], used: u16, k: u16, byte: u8)
+    ensures { λ _. ⌜ now (store .exit) ≡ storedByte (now (store .entry)) used k byte ⌝ }
 {
-    let t = tally(store);
-    let at = DIRECTORY + t.used + k as usize;
+    let at = DIRECTORY + used as usize + k as usize;
     if at < store.len() {
         store[at] = byte;
     }

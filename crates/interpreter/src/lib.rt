@@ -197,6 +197,7 @@ pub fn step(
             let edition = config.edition;
             storage::upload_data(
                 store,
+                panel,
                 port,
                 edition,
                 sort,

@@ -10,17 +10,17 @@ use lib.ListN.{length, drop, set, List·getD-eq-default}
 use lib.Seq.{getD-drop, drop-drop, set-out}
 use borrow.Author.Tests.{ne-eqb}
 use Rattle.bar_graph.specs.declared.Bar.{Bar}
-use Rattle.queue.specs.Record.{at}
+use Rattle.queue.specs.Record.{at, Bytes}
 use Rattle.state.specs.declared.BarSlot.{BarSlot}
 use Rattle.state.specs.declared.Strip.{Strip}
 use Rattle.state.specs.declared.Panel.{Panel}
-use Rattle.state.specs.State.{barOf, barSlot, strip, barAt, stripAt, noBar, noStrip, withBars, withStrips, withSerial, withContrast, withBacklight}
+use Rattle.state.specs.State.{barOf, barSlot, strip, barAt, stripAt, noBar, noStrip, withBars, withStrips, withSerial, withContrast, withBacklight, withUsed}
 use Rattle.record.specs.Reading.{panelOf}
-use Rattle.record.specs.Writing.{slotBytes, stripBytes, panelBytes, over}
+use Rattle.record.specs.Writing.{low, high, slotBytes, stripBytes, panelBytes, over}
 use Rattle.record.proofs.Whole.{length-panel}
 use Rattle.panel.specs.Revised.{merged, revised, serial, backlight}
 use Rattle.panel.proofs.Merging.{merged-same, merged-all}
-use Rattle.panel.proofs.Parts.{bars-count, strips-count, bar-in, strip-in, bar-written, strip-written, serial-written, contrast-written, lit-written, dark-written}
+use Rattle.panel.proofs.Parts.{bars-count, strips-count, bar-in, strip-in, bar-written, strip-written, serial-written, contrast-written, lit-written, dark-written, used-written}
 
 pub revised-same : (l : List ℕ) → revised l (panelOf l) ≡ l
 unfolding revised
@@ -144,6 +144,14 @@ unfolding panelOf
 dark-kept p f d h =
     let e : eqb (at (drop 156 p) 0) 1 ≡ false = ap (λ (x : ℕ). eqb x 1) (getD-drop 156 p 0 0 ∙ sym d) ∙ ne-eqb f 1 h in
     sym (ap (λ (t : Bool). revised p (withBacklight (panelOf p) (backlight t (panelOf p .backlight .minutes)))) (sym e) ∙ revised-same p)
+
+pub used-read : (p : List ℕ) (a b u : ℕ) → a ≡ at p 158 → b ≡ at p 159 → u ≡ a + 256 * b → u ≡ panelOf p .used
+unfolding panelOf
+used-read p a b u ea eb e = e ∙ rw (ea, eb)
+
+pub used-put : (p p1 p2 : List ℕ) (u : ℕ) → Bytes p → p1 ≡ set p 158 (low u) → p2 ≡ set p1 159 (high u) → p2 ≡ revised p (withUsed (panelOf p) u)
+unfolding over
+used-put p p1 p2 u b e1 e2 = let w : p2 ≡ over (low u ∷ high u ∷ []) 158 p = rw (e2, e1) in w ∙ used-written p b u
 
 -- ---- bytes that are written as the layout has it become those of the other panel
 

@@ -11,15 +11,16 @@ use lib.ListN.{length, getD, drop, set, length-set, length-append, List·getD-ap
 use lib.Seq.{set-append-left, getD-append-add, getD-drop, take-all, drop-at}
 use borrow.Author.Tests.{eqb-true}
 use Rattle.bar_graph.specs.declared.Bar.{Bar}
-use Rattle.queue.specs.Record.{at, bit}
+use Rattle.queue.specs.Record.{at, bit, Bytes}
 use Rattle.state.specs.declared.BarSlot.{BarSlot}
 use Rattle.state.specs.declared.Strip.{Strip}
 use Rattle.state.specs.declared.Panel.{Panel}
-use Rattle.state.specs.State.{barSlot, strip, barAt, stripAt, noBar, noStrip, withBars, withStrips, withSerial, withContrast, withBacklight}
+use Rattle.state.specs.State.{barSlot, strip, barAt, stripAt, noBar, noStrip, withBars, withStrips, withSerial, withContrast, withBacklight, withUsed}
 use Rattle.record.specs.Reading.{slotOf, stripOf, panelOf}
-use Rattle.record.specs.Writing.{manyBytes, slotBytes, stripBytes, lastBytes, panelBytes, over}
+use Rattle.record.specs.Writing.{low, high, manyBytes, slotBytes, stripBytes, lastBytes, panelBytes, over}
 use Rattle.record.proofs.Overwriting.{over-front, length-manyBytes}
 use Rattle.record.proofs.Whole.{length-panel}
+use Rattle.record.proofs.Back.{low-is, high-is}
 use Rattle.record.proofs.Filling.{length-many, many-at}
 use Rattle.panel.specs.Revised.{merged, revised, serial, backlight}
 use Rattle.panel.proofs.Merging.{Writable, merged-over}
@@ -221,7 +222,7 @@ module _ (p : List ℕ) where
       )
       ∙ ap (merged p (panelBytes (panelOf p))) (sym (strip-bytes n (strip true x1 y1 x2 y2) h))
 
-  -- ---- the six bytes behind them
+  -- ---- the eight bytes behind them
 
   last-bytes : (q : Panel) (l : List ℕ) (j : ℕ) → q .bars ≡ panelOf p .bars → q .strips ≡ panelOf p .strips → lastBytes q ≡ over l j (lastBytes (panelOf p))
       → panelBytes q ≡ over l (152 + j) (panelBytes (panelOf p))
@@ -235,7 +236,7 @@ module _ (p : List ℕ) where
       ∙ ap (λ (m : List ℕ). manyBytes slotBytes (panelOf p .bars) ++ m) (over-behind l (manyBytes stripBytes (panelOf p .strips)) _ j)))
 
   last-written : (q : Panel) (l : List ℕ) (j : ℕ) → q .bars ≡ panelOf p .bars → q .strips ≡ panelOf p .strips → lastBytes q ≡ over l j (lastBytes (panelOf p))
-      → j + length l ≤ 6 → Writable p (panelBytes (panelOf p)) (152 + j) l → over l (152 + j) p ≡ revised p q
+      → j + length l ≤ 8 → Writable p (panelBytes (panelOf p)) (152 + j) l → over l (152 + j) p ≡ revised p q
   unfolding revised
   last-written q l j e f d h w =
       merged-over l p (panelBytes (panelOf p)) (152 + j) (omega (arith, length-panel (panelOf p) (bars-count p) (strips-count p))) w ∙ ap (merged p (panelBytes (panelOf p))) (sym (last-bytes q l j e f d))
@@ -268,3 +269,10 @@ module _ (p : List ℕ) where
   dark-written e =
       last-written (withBacklight (panelOf p) (backlight false (panelOf p .backlight .minutes))) (0 ∷ []) 4 refl refl refl (omega arith)
       ((λ f. absurd (omega (arith, e, f, last-byte p 4, ap (λ (x : ℕ). bit (eqb x 1)) (getD-drop 156 p 0 0 ∙ e)))), tt)
+
+  -- two bytes are written as they are read
+  pub used-written : Bytes p → (u : ℕ) → over (low u ∷ high u ∷ []) 158 p ≡ revised p (withUsed (panelOf p) u)
+  unfolding panelOf over
+  used-written b u =
+      last-written (withUsed (panelOf p) u) (low u ∷ high u ∷ []) 6 refl refl refl (omega arith)
+      (last-raw _ 6 _ _ (omega arith) refl (low-is (at p 158) (at p 159) (b 158)), (last-raw _ 7 _ _ (omega arith) refl (high-is (at p 158) (at p 159) (b 158)), tt))

@@ -13,7 +13,7 @@ ghost use mathlib.Core.Bool.{true, false};
 ghost use Prim.Native.Nat.{_<_};
 ghost use lib.ListN.{set};
 ghost use Rattle.queue.specs.Record.{at};
-ghost use Rattle.state.specs.State.{barAt, stripAt, withBars, withStrips, withSerial, withContrast, withBacklight, barSlot, strip};
+ghost use Rattle.state.specs.State.{barAt, stripAt, withBars, withStrips, withSerial, withContrast, withBacklight, withUsed, barSlot, strip};
 ghost use Rattle.record.specs.Reading.{panelOf};
 ghost use Rattle.panel.specs.Revised.{revised, serial, backlight};
 
@@ -27,6 +27,8 @@ pub const CONTRAST: usize = 155;
 pub const BACKLIGHT: usize = 156;
 
 pub const MINUTES: usize = 157;
+
+pub const USED: usize = 158;
 
 fn wide(x: u8) -> usize
     ensures { λ r. ⌜ (r ≡ x) × (r < 256) ⌝ }
@@ -173,4 +175,18 @@ pub fn clear_backlight(panel: &mut [u8])
     if byte_at(panel, BACKLIGHT) == 1 {
         put(panel, BACKLIGHT, 0);
     }
+}
+
+// The used room.
+pub fn used_in(panel: &[u8]) -> u16
+    ensures { λ r. ⌜ r ≡ panelOf (now (panel .entry)) .used ⌝ }
+{
+    record::pair(byte_at(panel, USED), byte_at(panel, USED + 1))
+}
+
+pub fn set_used(panel: &mut [u8], used: u16)
+    ensures { λ _. ⌜ now (panel .exit) ≡ revised (now (panel .entry)) (withUsed (panelOf (now (panel .entry))) used) ⌝ }
+{
+    put(panel, USED, (used % 256) as u8);
+    put(panel, USED + 1, (used / 256) as u8);
 }

@@ -8,3 +8,4 @@ pub mod Streams
 pub mod Lost
 pub mod Examples
 pub mod Editions
+pub mod UsedRoom

@@ -9,11 +9,12 @@ use native.Mathlib.Omega.{arith}
 use native.Mathlib.Decide.{decLt}
 use borrow.Author.Tests.{lt-ltb, le-leb, lt-leb}
 use Rattle.refusals.specs.Refusals.{uploadAborted}
-use Rattle.files.specs.Files.{storedByte}
+use Rattle.directory.specs.Directory.{entries, bytesIn}
+use Rattle.files.specs.Files.{unusedOf, storedByte}
 use Rattle.state.specs.declared.Phase.{Phase}
 use Rattle.state.specs.declared.Phase.the-variants.{Idle, Prefix, Gathering, Inline, Upload}
 use Rattle.state.specs.Editions.{patience}
-use Rattle.rules.specs.World.{World, edition, port, withStore, done, quietly, refused}
+use Rattle.rules.specs.World.{World, edition, port, used, withStore, done, quietly, refused}
 use Rattle.rules.specs.Pictures.{inPhase}
 use Rattle.rules.specs.Files.{inUse, kindOf, lacksSpace, beginUpload, uploadData, uploadWaits}
 use Rattle.rules.specs.Numbers.{tooHigh}
@@ -65,7 +66,8 @@ module _ (w : World) (sort number size stored : ℕ) (waiting : Bool) (held wait
 
 -- the start of an upload
 pub start-resets : (w : World) (sort number size : ℕ) → tooHigh number ≡ false → inUse (w .store) sort number ≡ false
-    → lacksSpace (w .store) (kindOf (edition w) sort) size ≡ false → beginUpload w sort number size ≡ done (inPhase w (Upload sort number size 0 false 0 0)) (1 ∷ [])
+    → lacksSpace (bytesIn (entries (w .store))) (unusedOf (w .store) (used w)) (kindOf (edition w) sort) size ≡ false
+    → beginUpload w sort number size ≡ done (inPhase w (Upload sort number size 0 false 0 0)) (1 ∷ [])
 unfolding beginUpload
 start-resets w sort number size a b c = rw (a, b, c)
 
@@ -77,7 +79,7 @@ module _ (w : World) (sort number size stored held waited b : ℕ) where
 
   -- each confirmation
   pub confirmation-resets : port w .line .phase ≡ Upload sort number size stored true held waited → stored + 1 < size
-      → step w (byte 1) ≡ inPhase (withStore w (storedByte (w .store) stored held)) (Upload sort number size (stored + 1) false 0 0)
+      → step w (byte 1) ≡ inPhase (withStore w (storedByte (w .store) (used w) stored held)) (Upload sort number size (stored + 1) false 0 0)
   unfolding step after byPhase uploadData
   confirmation-resets e h = rw (e, lt-ltb (stored + 1) size h)
 

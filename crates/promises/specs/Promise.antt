@@ -12,7 +12,8 @@ use Rattle.bar_graph.specs.Bars.{rectangleOf, fullPicture}
 use Rattle.bar_ledger.specs.Claim.{ledgerAt, Agrees}
 use Rattle.bar_ledger.specs.Since.{SinceZero}
 use Rattle.queue.specs.Record as queue-record
-use Rattle.record.specs.Reading.{configIn, decodeOf}
+use Rattle.directory.specs.Directory.{entries, sizesIn}
+use Rattle.record.specs.Reading.{configIn, usedIn, decodeOf}
 use Rattle.state.specs.State.{barAt}
 use Rattle.rules.specs.World.{port, panel}
 use Rattle.rules.specs.Step.{step}
@@ -20,6 +21,7 @@ use Rattle.rules.specs.Calls.{run, said}
 use Rattle.rules.specs.Chunks.{joined}
 use Rattle.rules.specs.Events.{view, event}
 use Rattle.rules.specs.History.{refusedOf, lastOf}
+use Rattle.rules.specs.Sound.{TrueSum}
 use Rattle.calls.specs.Memory.{checked, loaded, saved}
 use Rattle.calls.specs.Line.{bothSound}
 use Rattle.calls.specs.List.{Board, chunksIn}
@@ -52,6 +54,9 @@ pub record Promise (b : Board) (l : List Made) : Type 0 where
   pub never-28 : (port (loaded (b .memory)) .refusals .last ≡ noGlyph → ⊥) → decodeOf (leftAll b l .memory .state) .port .refusals .last ≡ noGlyph → ⊥
   -- height and edition stay
   pub config : configIn (leftAll b l .memory .state) ≡ configIn (b .memory .state)
+  -- the used room that the record keeps is the directory's own sum of file sizes, after the list and after every input
+  pub used : usedIn (leftAll b l .memory .state) ≡ sizesIn (entries (leftAll b l .memory .store))
+  pub used-along : (n : ℕ) → TrueSum (run (loaded (b .memory)) (take n (allConsumed l)))
   -- the next call is not refused with 1 to 4; an arrival or a take is not where the queue record was sound
   pub again : checked (leftAll b l .memory) ≡ 0
   pub line-again : queue-record.soundRecord (b .queue) ≡ true → bothSound (leftAll b l .memory .state) (leftAll b l .queue) ≡ true

@@ -3,7 +3,7 @@
 use mathlib.Core.Path.{_≡_, refl, sym, ap, _∙_}
 use mathlib.Core.Bool.{Bool, true, false}
 use mathlib.Core.List.{List, [], _∷_, _++_, append-assoc}
-use Prim.Native.Nat.{ℕ, _+_, _*_}
+use Prim.Native.Nat.{ℕ, _+_, _*_, _<_}
 use native.Mathlib.Omega.{arith}
 use lib.Dec.{eqb}
 use lib.ListN.{length, drop}
@@ -18,7 +18,7 @@ use Rattle.state.specs.declared.Strip.{Strip}
 use Rattle.state.specs.declared.Panel.{Panel}
 use Rattle.state.specs.declared.State.{State}
 use Rattle.record.specs.Layout.{heightAt, editionAt, panelAt}
-use Rattle.record.specs.Reading.{manyOf, phaseOf, argumentsIn, textOf, drawingOf, flowOf, refusalsOf, slotOf, stripOf, serialOf, backlightOf, panelOf}
+use Rattle.record.specs.Reading.{manyOf, pairAt, phaseOf, argumentsIn, textOf, drawingOf, flowOf, refusalsOf, slotOf, stripOf, serialOf, backlightOf, panelOf}
 use Rattle.record.specs.Writing.{low, high, manyBytes, gatheringBytes, dataBytes, uploadBytes, textBytes, otherBytes, phaseBytes, portBytes}
 use Rattle.record.specs.Writing.{slotBytes, stripBytes, lastBytes, panelBytes, encodeOf}
 use Rattle.record.proofs.Whole.{Sized, length-gathering, length-data, length-upload, length-bars, length-strips}
@@ -35,6 +35,13 @@ colour-back false = refl
 
 pair-back : (n : ℕ) → low n + 256 * high n ≡ n
 pair-back n = omega arith
+
+-- and a pair of bytes is taken apart again
+pub low-is : (a b : ℕ) → a < 256 → low (a + 256 * b) ≡ a
+low-is a b h = omega arith
+
+pub high-is : (a b : ℕ) → a < 256 → high (a + 256 * b) ≡ b
+high-is a b h = omega arith
 
 phase-back : (p : Phase) (r a b c : List ℕ) → r ≡ gatheringBytes p ++ a → drop 9 r ≡ dataBytes p ++ b → drop 15 r ≡ uploadBytes p ++ c → phaseOf r ≡ p
 unfolding phaseOf
@@ -89,6 +96,9 @@ module _ (q : Panel) (b : length (q .bars) ≡ 16) (t : length (q .strips) ≡ 8
   last-written : drop 152 (panelBytes q) ≡ lastBytes q
   last-written = next (panelBytes q) (manyBytes stripBytes (q .strips)) _ 112 40 strips-written (length-strips q t)
 
+  last-byte : (j : ℕ) → at (panelBytes q) (152 + j) ≡ at (lastBytes q) j
+  last-byte j = sym (getD-drop 152 (panelBytes q) j 0) ∙ ap (λ (l : List ℕ). at l j) last-written
+
   bars-back : manyOf slotOf 7 (panelBytes q) 16 ≡ q .bars
   bars-back = rw (← b, bars-written) (many-back slotOf slotBytes 7 slot-back (λ a m. refl) (q .bars) _)
 
@@ -99,14 +109,17 @@ module _ (q : Panel) (b : length (q .bars) ≡ 16) (t : length (q .strips) ≡ 8
   serial-back = ap serialOf last-written ∙ rw (bit-back (q .serial .on))
 
   contrast-back : at (panelBytes q) 155 ≡ q .contrast
-  contrast-back = sym (getD-drop 152 (panelBytes q) 3 0) ∙ ap (λ (l : List ℕ). at l 3) last-written
+  contrast-back = last-byte 3
 
   backlight-back : backlightOf (drop 156 (panelBytes q)) ≡ q .backlight
   backlight-back = ap backlightOf (sym (drop-drop 4 152 (panelBytes q)) ∙ ap (drop 4) last-written) ∙ rw (bit-back (q .backlight .on))
 
+  used-back : pairAt (panelBytes q) 158 ≡ q .used
+  used-back = rw (last-byte 6, last-byte 7) (pair-back (q .used))
+
   pub panel-back : panelOf (panelBytes q) ≡ q
   unfolding panelOf
-  panel-back = rw (bars-back, strips-back, serial-back, contrast-back, backlight-back)
+  panel-back = rw (bars-back, strips-back, serial-back, contrast-back, backlight-back, used-back)
 
 module _ (s : State) (z : Sized s) where
   abbrev behind : List ℕ

@@ -36,7 +36,7 @@ each-bytes (a ∷ l) f (suc k) = each-bytes l (f .1) k
 
 -- ---- reading
 
-bytes-drop : (n : ℕ) (l : List ℕ) → Bytes l → Bytes (drop n l)
+pub bytes-drop : (n : ℕ) (l : List ℕ) → Bytes l → Bytes (drop n l)
 bytes-drop n l b k = rw (getD-drop n l k 0) (b (n + k))
 
 pair-fits : (l : List ℕ) (k : ℕ) → Bytes l → pairAt l k < 65536
@@ -106,6 +106,7 @@ panel-fits l b =
       serial = record { a = s 1; b = s 2 };
       contrast = b 155;
       minutes = bytes-drop 156 l b 1;
+      used = pair-fits l 158 b;
     }
 
 pub decoded-fits : (r : List ℕ) → Bytes r → Fits (decodeOf r)
@@ -192,7 +193,7 @@ unfolding panelBytes
 panel-written q f =
     each-append (manyBytes slotBytes (q .bars)) _ (many-written BarFits slotBytes noBar slot-written (q .bars) (f .bars))
     (each-append (manyBytes stripBytes (q .strips)) (lastBytes q) (many-written StripFits stripBytes noStrip strip-written (q .strips) (f .strips))
-    (bit-fits (q .serial .on), (f .serial .a, (f .serial .b, (f .contrast, (bit-fits (q .backlight .on), (f .minutes, tt)))))))
+    (bit-fits (q .serial .on), (f .serial .a, (f .serial .b, (f .contrast, (bit-fits (q .backlight .on), (f .minutes, (low-fits (q .used), (high-fits (q .used) (f .used), tt)))))))))
 
 pub encoded-bytes : (s : State) → Fits s → Bytes (encodeOf s)
 unfolding encodeOf

@@ -4,7 +4,7 @@ use mathlib.Core.Path.{_≡_, sym, ap, _∙_}
 use mathlib.Core.Logic.{_↔_}
 use mathlib.Core.Bool.{true, _&&_}
 use mathlib.Core.List.{List}
-use Prim.Native.Nat.{ℕ, _+_, _*_}
+use Prim.Native.Nat.{ℕ, _+_, _*_, _<_}
 use lib.Dec.{eqb}
 use lib.ListN.{length, drop}
 use lib.Seq.{getD-drop}
@@ -26,7 +26,7 @@ use Rattle.state.specs.Fits.{ConfigFits, Fits}
 use Rattle.state.proofs.Editions.{edition-fits}
 use Rattle.state.proofs.Start.{start-sound, start-thresholds, start-canonical, start-fits}
 use Rattle.record.specs.Layout.{flowAt, flowFullAt, flowEmptyAt, refusalsAt, lastRefusalAt, panelAt, contrastAt, backlightAt, minutesAt, heightAt, editionAt, recordSize}
-use Rattle.record.specs.Reading.{pairAt, flagAt, portOf, panelOf, configIn, decodeOf}
+use Rattle.record.specs.Reading.{pairAt, flagAt, portOf, panelOf, configIn, usedIn, decodeOf}
 use Rattle.record.specs.Writing.{encodeOf}
 use Rattle.record.specs.Record.{encodedIn, sameBytes, recognised, soundRecord}
 use Rattle.record.proofs.Same.{both, same-refl, same-equal}
@@ -135,8 +135,8 @@ config-fits c k =
     let p = both (isHeight (c .height)) (isEdition (c .edition)) k in
     record { height = height-fits (c .height) (p .0); edition = edition-fits (c .edition) (p .1) }
 
-pub start-record : (c : Config) → soundConfig c ≡ true → soundRecord (encodeOf (startState c)) ≡ true
-start-record c k = encoded-sound (startState c) (start-fits c (config-fits c k)) (start-sound c k) (start-thresholds (c .height)) (start-canonical c)
+pub start-record : (c : Config) (u : ℕ) → soundConfig c ≡ true → u < 65536 → soundRecord (encodeOf (startState c u)) ≡ true
+start-record c u k h = encoded-sound (startState c u) (start-fits c u (config-fits c k) h) (start-sound c u k) (start-thresholds (c .height)) (start-canonical c u)
 
 pub record Shown (s : State) (r : List ℕ) : Type 0 where
   pub height : at r heightAt ≡ s .config .height
@@ -144,6 +144,7 @@ pub record Shown (s : State) (r : List ℕ) : Type 0 where
   pub contrast : at r contrastAt ≡ s .panel .contrast
   pub backlight : flagAt r backlightAt ≡ s .panel .backlight .on
   pub minutes : at r minutesAt ≡ s .panel .backlight .minutes
+  pub used : usedIn r ≡ s .panel .used
   pub count : pairAt r refusalsAt ≡ s .port .refusals .count
   pub last : at r lastRefusalAt ≡ s .port .refusals .last
   pub flow : flagAt r flowAt ≡ s .port .flow .on
@@ -165,6 +166,10 @@ panel-minutes : (r : List ℕ) → at r minutesAt ≡ panelOf (drop panelAt r) .
 unfolding panelOf
 panel-minutes r = sym (getD-drop 156 (drop panelAt r) 1 0 ∙ getD-drop panelAt r 157 0)
 
+pub panel-used : (r : List ℕ) → usedIn r ≡ panelOf (drop panelAt r) .used
+unfolding panelOf
+panel-used r = sym (cong-pair (getD-drop panelAt r 158 0) (getD-drop panelAt r 159 0))
+
 pub shown : (s : State) → Fits s → Shown s (encodeOf s)
 shown s f =
     let z = sized s f in
@@ -175,6 +180,7 @@ shown s f =
       contrast = panel-contrast r ∙ ap (λ (q : Panel). q .contrast) (panel-read s z);
       backlight = panel-backlight r ∙ ap (λ (q : Panel). q .backlight .on) (panel-read s z);
       minutes = panel-minutes r ∙ ap (λ (q : Panel). q .backlight .minutes) (panel-read s z);
+      used = panel-used r ∙ ap (λ (q : Panel). q .used) (panel-read s z);
       count = sym (cong-pair (getD-drop 44 r 0 0) (getD-drop 44 r 1 0)) ∙ ap (λ (n : Refusals). n .count) (refusals-read s z);
       last = sym (getD-drop 44 r 2 0) ∙ ap (λ (n : Refusals). n .last) (refusals-read s z);
       flow = sym (ap (λ (n : ℕ). eqb n 1) (getD-drop 41 r 0 0)) ∙ ap (λ (w : Flow). w .on) (flow-read s z);

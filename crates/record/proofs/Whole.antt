@@ -69,7 +69,7 @@ length-strips q e = length-manyBytes stripBytes 5 (λ a. refl) (q .strips) ∙ r
 
 pub length-panel : (q : Panel) → length (q .bars) ≡ 16 → length (q .strips) ≡ 8 → length (panelBytes q) ≡ panelSize
 unfolding panelBytes
-length-panel q e f = part (manyBytes slotBytes (q .bars)) _ 112 46 (length-bars q e) (part (manyBytes stripBytes (q .strips)) _ 40 6 (length-strips q f) refl)
+length-panel q e f = part (manyBytes slotBytes (q .bars)) _ 112 48 (length-bars q e) (part (manyBytes stripBytes (q .strips)) _ 40 8 (length-strips q f) refl)
 
 pub length-sized : (s : State) → Sized s → length (encodeOf s) ≡ recordSize
 unfolding encodeOf

@@ -67,7 +67,7 @@ abbrev pub panelAt : ℕ
 panelAt = editionAt + 1
 
 abbrev pub panelSize : ℕ
-panelSize = 158
+panelSize = 160
 
 -- ---- where the parts of the panel stand behind its front, and in the record
 
@@ -116,6 +116,13 @@ panelMinutes = 157
 
 abbrev pub minutesAt : ℕ
 minutesAt = panelAt + panelMinutes
+
+-- the used room (2)
+abbrev pub panelUsed : ℕ
+panelUsed = 158
+
+abbrev pub usedAt : ℕ
+usedAt = panelAt + panelUsed
 
 abbrev pub recordSize : ℕ
 recordSize = panelAt + panelSize

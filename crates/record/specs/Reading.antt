@@ -22,7 +22,7 @@ use Rattle.state.specs.declared.Panel.{Panel}
 use Rattle.state.specs.declared.Config.{Config}
 use Rattle.state.specs.declared.State.{State}
 use Rattle.state.specs.State.{lineOf, barOf, barSlot, strip, config, state}
-use Rattle.record.specs.Layout.{phaseAt, codeAt, gotAt, argumentsAt, inlineAt, uploadAt, textAt, drawingAt, flowAt, refusalsAt, heightAt, editionAt, panelAt, panelBars, barSize, panelStrips, stripSize, panelSerial, panelContrast, panelBacklight}
+use Rattle.record.specs.Layout.{phaseAt, codeAt, gotAt, argumentsAt, inlineAt, uploadAt, textAt, drawingAt, flowAt, refusalsAt, heightAt, editionAt, panelAt, panelBars, barSize, panelStrips, stripSize, panelSerial, panelContrast, panelBacklight, panelUsed, usedAt}
 
 -- a number of two bytes, low byte first
 abbrev pub pairAt : List ℕ → ℕ → ℕ
@@ -114,6 +114,7 @@ panelOf l =
       serial = serialOf (drop panelSerial l);
       contrast = at l panelContrast;
       backlight = backlightOf (drop panelBacklight l);
+      used = pairAt l panelUsed;
     }
 
 -- ---- the whole
@@ -127,6 +128,10 @@ editionIn r = at r editionAt
 -- what the board chose at start
 abbrev pub configIn : List ℕ → Config
 configIn r = config (heightIn r) (editionIn r)
+
+-- the used room that it keeps
+abbrev pub usedIn : List ℕ → ℕ
+usedIn r = pairAt r usedAt
 
 unfoldable pub decodeOf : List ℕ → State
 decodeOf r = state (configIn r) (portOf r) (panelOf (drop panelAt r))

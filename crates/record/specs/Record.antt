@@ -1,4 +1,4 @@
--- The record of a state, 207 bytes: what is written of it, and which records are accepted.
+-- The record of a state, 209 bytes: what is written of it, and which records are accepted.
 -- Assumes nothing.
 use mathlib.Core.Bool.{Bool, true, false, _&&_}
 use mathlib.Core.List.{List, [], _∷_, _++_}

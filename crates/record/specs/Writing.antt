@@ -74,9 +74,9 @@ slotBytes s = bit (s .on) ∷ s .bar .kind ∷ s .bar .x1 ∷ s .bar .y1 ∷ s .
 abbrev pub stripBytes : Strip → List ℕ
 stripBytes s = bit (s .on) ∷ s .x1 ∷ s .y1 ∷ s .x2 ∷ s .y2 ∷ []
 
--- serial, contrast, backlight
+-- serial, contrast, backlight, the used room
 abbrev pub lastBytes : Panel → List ℕ
-lastBytes q = bit (q .serial .on) ∷ q .serial .a ∷ q .serial .b ∷ q .contrast ∷ bit (q .backlight .on) ∷ q .backlight .minutes ∷ []
+lastBytes q = bit (q .serial .on) ∷ q .serial .a ∷ q .serial .b ∷ q .contrast ∷ bit (q .backlight .on) ∷ q .backlight .minutes ∷ low (q .used) ∷ high (q .used) ∷ []
 
 unfoldable pub panelBytes : Panel → List ℕ
 panelBytes q = manyBytes slotBytes (q .bars) ++ (manyBytes stripBytes (q .strips) ++ lastBytes q)

@@ -1,4 +1,4 @@
-// The record of 207 bytes in which a caller keeps the state: its layout, and what is read from it.
+// The record of 209 bytes in which a caller keeps the state: its layout, and what is read from it.
 mod reading;
 
 use queue::Flow;
@@ -9,7 +9,7 @@ pub use reading::pair;
 pub use reading::word;
 use state::Config;
 ghost use mathlib.Core.Path.{_≡_};
-ghost use Rattle.record.specs.Reading.{heightIn, configIn, decodeOf};
+ghost use Rattle.record.specs.Reading.{heightIn, configIn, usedIn, decodeOf};
 
 // Where the parts stand. The phase: 0 idle, 1 prefix, 2 gathering, 3 in line, 4 upload.
 pub const PHASE: usize = 0;
@@ -74,7 +74,10 @@ pub const BACKLIGHT: usize = 205;
 
 pub const MINUTES: usize = 206;
 
-pub const RECORD: usize = 207;
+// The used room (2).
+pub const USED: usize = 207;
+
+pub const RECORD: usize = 209;
 
 // The height that a record says; a short record goes on with zeros.
 pub fn height_in(r: &[u8]) -> u8
@@ -98,4 +101,11 @@ pub fn flow_in(r: &[u8]) -> Flow
     ensures { λ f. ⌜ f ≡ decodeOf (now (r .entry)) .port .flow ⌝ }
 {
     flow_of(r)
+}
+
+// The used room that it keeps.
+pub fn used_in(r: &[u8]) -> u16
+    ensures { λ u. ⌜ u ≡ usedIn (now (r .entry)) ⌝ }
+{
+    pair(byte_at(r, USED), byte_at(r, USED + 1))
 }

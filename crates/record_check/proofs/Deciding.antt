@@ -10,7 +10,7 @@ use lib.ListN.{length, drop, replicate}
 use lib.Seq.{drop-drop, getD-drop}
 use borrow.Author.Tests.{eq-eqb, ne-eqb, eqb-true, not-true, not-false}
 use Rattle.canvas.specs.Sizes.{isHeight}
-use Rattle.queue.specs.Record.{at, bit, bytesFrom}
+use Rattle.queue.specs.Record.{at, bit, Bytes, bytesFrom}
 use Rattle.state.specs.declared.Config.{Config}
 use Rattle.state.specs.Editions.{isEdition}
 use Rattle.state.specs.Soundness.{every, soundPhase, soundText, soundPort, thresholdsFit, soundBar, soundStrip, soundPanel, soundConfig, soundState}
@@ -21,6 +21,8 @@ use Rattle.record.specs.Writing.{manyBytes, gatheringBytes, dataBytes, uploadBy
 use Rattle.record_check.specs.Parts.{stands, clear, everyOf, phaseStands, phaseHolds, textHolds, otherHolds, portHolds, slotHolds, stripHolds, panelHolds}
 use Rattle.record.specs.Record.{sameBytes, recognised, soundRecord}
 use Rattle.record.proofs.Same.{both}
+use Rattle.record.proofs.Back.{low-is, high-is}
+use Rattle.record.proofs.Bytes.{bytes-drop}
 use Rattle.record.proofs.Filling.{length-many}
 use Rattle.record.proofs.Whole.{Sized, length-gathering, length-data, length-phase, length-port, length-bars, length-strips, length-sized}
 use Rattle.record_check.proofs.Standing.{stands-next, stands-drop, stands-front, stands-read, stands-same}
@@ -119,7 +121,7 @@ panel-parts a b c d false u v w = rw (and-false (c && d), and-false (a && b)) (s
 panel-parts a b c d true u v w =
     rw (and-true (c && d), swap a b c d, swap (a && c) (b && d) u (v && w), ← and-assoc (b && d) v w) (sym (and-assoc (a && c && u) (b && d && v) w))
 
-module _ (h : ℕ) (l : List ℕ) where
+module _ (h : ℕ) (l : List ℕ) (b : Bytes l) where
   panel-written : stands (panelBytes (panelOf l)) 0 l
       ≡ (stands (manyBytes slotBytes (panelOf l .bars)) 0 l && (stands (manyBytes stripBytes (panelOf l .strips)) 0 (drop 112 l) && stands (lastBytes (panelOf l)) 152 l))
   unfolding panelBytes
@@ -129,9 +131,9 @@ module _ (h : ℕ) (l : List ℕ) where
       (stands-next (manyBytes stripBytes (panelOf l .strips)) (lastBytes (panelOf l)) 112 40 l (length-strips (panelOf l) (panel-strips l))
       ∙ ap (λ (t : Bool). t && stands (lastBytes (panelOf l)) 152 l) (sym (stands-front (manyBytes stripBytes (panelOf l .strips)) 112 l)))
 
-  last-plain : lastBytes (panelOf l) ≡ bit (flagAt l 152) ∷ (bytesFrom l 153 3 ++ (bit (flagAt l 156) ∷ bytesFrom l 157 1))
+  last-plain : lastBytes (panelOf l) ≡ bit (flagAt l 152) ∷ (bytesFrom l 153 3 ++ (bit (flagAt l 156) ∷ bytesFrom l 157 3))
   unfolding panelOf bytesFrom
-  last-plain = simp getD-drop
+  last-plain = simp (getD-drop, low-is (at l 158) (at l 159) (b 158), high-is (at l 158) (at l 159) (b 158))
 
   serial-is : canonicalSerial (panelOf l .serial) ≡ (flagAt l 152 || clear 153 2 l)
   unfolding panelOf canonicalSerial every stands
@@ -141,7 +143,7 @@ module _ (h : ℕ) (l : List ℕ) where
   unfolding stands
   last-is =
       ap (λ (t : Bool). t && stands (lastBytes (panelOf l)) 152 l) serial-is
-      ∙ ap (λ (t : Bool). (flagAt l 152 || clear 153 2 l) && t) (ap (λ (m : List ℕ). stands m 152 l) last-plain ∙ flags-both l 152 3 1)
+      ∙ ap (λ (t : Bool). (flagAt l 152 || clear 153 2 l) && t) (ap (λ (m : List ℕ). stands m 152 l) last-plain ∙ flags-both l 152 3 3)
       ∙ sym (and-assoc (flagAt l 152 || clear 153 2 l) (ltb (at l 152) 2) (ltb (at l 156) 2))
       ∙ ap (λ (t : Bool). t && ltb (at l 156) 2) (flag-or-clear (at l 152) (clear 153 2 l))
 
@@ -163,7 +165,7 @@ module _ (h : ℕ) (l : List ℕ) where
       (stands (manyBytes slotBytes (q .bars)) 0 l) (stands (manyBytes stripBytes (q .strips)) 0 (drop 112 l)) (stands (lastBytes q) 152 l)
       ∙ rw (bars-are, strips-are, last-is)
 
-module _ (h : ℕ) (r : List ℕ) where
+module _ (h : ℕ) (r : List ℕ) (b : Bytes r) where
   abbrev graphs : Bool
   graphs = everyOf (slotHolds h) 7 (drop panelAt r) 16 && everyOf (stripHolds h) 5 (drop stripsAt r) 8
 
@@ -173,7 +175,7 @@ module _ (h : ℕ) (r : List ℕ) where
   -- the same in the places of the record
   panel-in : panelHolds h (drop panelAt r) ≡ (graphs && (serial && ltb (at r backlightAt) 2))
   panel-in =
-      panel-is h (drop panelAt r)
+      panel-is h (drop panelAt r) (bytes-drop panelAt r b)
       ∙ rw (drop-drop panelStrips panelAt r, getD-drop panelAt r panelSerial 0, getD-drop panelAt r panelBacklight 0, stands-drop (replicate 3 0) panelAt panelSerial r)
 
   pub panel-backlight-not : (f : Bool) → f ≡ ltb (at r backlightAt) 2 → not f ≡ true → false ≡ panelHolds h (drop panelAt r)

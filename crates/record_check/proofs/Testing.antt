@@ -21,6 +21,7 @@ use Rattle.record.specs.Reading.{flagAt, inlineOf, uploadOf, argumentsIn, textO
 use Rattle.record.specs.Writing.{low, high, dataBytes, uploadBytes, textBytes, otherBytes}
 use Rattle.record_check.specs.Parts.{stands, clear, phaseStands, phaseHolds, textHolds, otherHolds}
 use Rattle.record_check.proofs.Standing.{stands-next, stands-read, clear-add, zeros-from}
+use Rattle.record.proofs.Back.{low-is, high-is}
 use Rattle.record.proofs.Ways.{phase-prefix, phase-gathering, phase-inline, phase-upload, phase-idle}
 
 -- ---- flags, a colour and numbers of two bytes are written as they are read
@@ -31,12 +32,6 @@ zero-flag n e = elim (ℕ-discrete n 0) [ yes z ↦ rw z | no z ↦ rw (ne-eqb n
 bit-below : (b : Bool) → bit b < 2
 bit-below true = omega arith
 bit-below false = omega arith
-
-low-is : (a b : ℕ) → a < 256 → low (a + 256 * b) ≡ a
-low-is a b h = omega arith
-
-high-is : (a b : ℕ) → a < 256 → high (a + 256 * b) ≡ b
-high-is a b h = omega arith
 
 -- what is read stands, and the rest behind it
 read-next : (r : List ℕ) (k n : ℕ) (m : List ℕ) → stands (bytesFrom r k n ++ m) k r ≡ stands m (k + n) r

@@ -315,8 +315,8 @@ fn encode_strips(strips: [Strip; STRIPS], out: &mut [u8])
     }
 }
 
-// Serial, contrast, backlight.
-fn last_bytes(p: Panel) -> [u8; 6]
+// Serial, contrast, backlight, the used room.
+fn last_bytes(p: Panel) -> [u8; 8]
     ensures { λ r. ⌜ r ≡ lastBytes p ⌝ }
 {
     [
@@ -326,6 +326,8 @@ fn last_bytes(p: Panel) -> [u8; 6]
         p.contrast,
         bit(p.backlight.on),
         p.backlight.minutes,
+        low(p.used),
+        high(p.used),
     ]
 }
 

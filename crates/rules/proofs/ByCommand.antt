@@ -22,12 +22,13 @@ use Rattle.rectangle.specs.Frame.{frame}
 use Rattle.bar_ledger.specs.Ledger.{quiet, setUp, wrote, painted}
 use Rattle.directory.specs.declared.Found.{Found}
 use Rattle.directory.specs.declared.Found.the-variants.{At, Nothing}
-use Rattle.directory.specs.Directory.{findOf, entries, hasFile}
+use Rattle.directory.specs.Directory.{findOf, entries, bytesIn, hasFile}
+use Rattle.files.specs.Files.{unusedOf}
 use Rattle.opened_font.specs.Glyphs.{glyphOf}
 use Rattle.fonts.specs.Bitmaps.{isBitmap, bitmapWidth, bitmapHeight}
 use Rattle.state.specs.Editions.{patience}
 use Rattle.state.specs.State.{barOf, barAt, stripAt, strip}
-use Rattle.rules.specs.World.{World, height, edition, port, panel}
+use Rattle.rules.specs.World.{World, height, edition, port, panel, used}
 use Rattle.rules.specs.Numbers.{tooHigh}
 use Rattle.rules.specs.Fonts.{Opened, opened, shut, openFont}
 use Rattle.rules.specs.Text.{placeX, placeY, Place, place, nowhere, wrapped, fitted, Ink, inked, Drawn, drawn, ignored, drawnBy, drawnAt, drawnOn, characterIn, character, fontChosen, chooseFont, placeIn, setPlace}
@@ -166,7 +167,7 @@ unfolding beginUpload
 upload-obeys w k n z =
     by-test (Obeying w quiet) (tooHigh n) _ _ (λ _. tt) (λ _.
     by-test (Obeying w quiet) (inUse (w .store) k n) _ _ (λ _. tt) (λ _.
-    by-test (Obeying w quiet) (lacksSpace (w .store) (kindOf (edition w) k) z) _ _ (λ _. tt) (λ _. fair-quiet w _ refl refl refl refl)))
+    by-test (Obeying w quiet) (lacksSpace (bytesIn (entries (w .store))) (unusedOf (w .store) (used w)) (kindOf (edition w) k) z) _ _ (λ _. tt) (λ _. fair-quiet w _ refl refl refl refl)))
 
 confirmed-fair : (w : World) (k n z s c : ℕ) → Fair w quiet (confirmed w k n z s c)
 confirmed-fair w k n z s c =
@@ -181,14 +182,15 @@ pub waits-obeys : (w : World) (k n z s : ℕ) (v : Bool) (c t ms : ℕ) → Obey
 unfolding uploadWaits
 waits-obeys w k n z s v c t ms = by-test (Obeying w quiet) (leb patience (t + ms)) _ _ (λ _. tt) (λ _. fair-quiet w _ refl refl refl refl)
 
-unchosen-fair : (w v : World) (k n : ℕ) → v .framebuffer ≡ w .framebuffer → panel v ≡ panel w → port v .refusals ≡ port w .refusals → Fair w quiet (unchosen v k n)
-unchosen-fair w v k n s p r =
-    by-test (Fair w quiet) (eqb k 1 && eqb n (port v .text .font)) _ _ (λ _. fair-quiet w _ (rw p) (rw p) r s) (λ _. fair-quiet w v (rw p) (rw p) r s)
+unchosen-fair : (w v : World) (k n : ℕ) → v .framebuffer ≡ w .framebuffer → panel v .bars ≡ panel w .bars → panel v .strips ≡ panel w .strips → port v .refusals ≡ port w .refusals
+    → Fair w quiet (unchosen v k n)
+unchosen-fair w v k n s p q r =
+    by-test (Fair w quiet) (eqb k 1 && eqb n (port v .text .font)) _ _ (λ _. fair-quiet w _ p (rw q) r s) (λ _. fair-quiet w v p (rw q) r s)
 
 pub delete-obeys : (w : World) (t n : ℕ) → Obeying w quiet (deleteFile w t n)
 unfolding deleteFile
 delete-obeys w t n =
-    passes w _ (leb 2 t) 20 _ (λ _. passes w _ (tooHigh n) 19 _ (λ _. passes w _ (not (hasFile (entries (w .store)) (t + 1) n)) 22 _ (λ _. unchosen-fair w _ (t + 1) n refl refl refl)))
+    passes w _ (leb 2 t) 20 _ (λ _. passes w _ (tooHigh n) 19 _ (λ _. passes w _ (not (hasFile (entries (w .store)) (t + 1) n)) 22 _ (λ _. unchosen-fair w _ (t + 1) n refl refl refl refl)))
 
 pub purge-obeys : (w : World) (a b : ℕ) → Obeying w quiet (purge w a b)
 unfolding purge

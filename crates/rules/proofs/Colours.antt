@@ -41,7 +41,7 @@ abbrev row : ℕ → List ℕ
 row b = b ∷ replicate 29 0
 
 abbrev held : World
-held = world (row 15) (replicate 1024 0) (startState (config 1 1))
+held = world (row 15) (replicate 1024 0) (startState (config 1 1) 0)
 
 -- 254 is no prefix where a colour byte is due
 abbrev bytes : List ℕ

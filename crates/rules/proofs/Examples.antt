@@ -22,7 +22,7 @@ use Rattle.rules.specs.Settings.{flowOn}
 use Rattle.rules.specs.Step.{obey, code, argument, after}
 
 abbrev pub blank : World
-blank = world (replicate 240 0) (replicate 1024 0) (startState (config 8 1))
+blank = world (replicate 240 0) (replicate 1024 0) (startState (config 8 1) 0)
 
 -- THE ORDER OF REFUSALS: everything wrong, then one thing less each time
 pub bar-order : (setUpBar blank 16 4 240 8 0 0 ≡ refused 19 []) × (setUpBar blank 15 4 240 8 0 0 ≡ refused 20 []) × (setUpBar blank 15 3 240 8 0 0 ≡ refused 17 [])

@@ -34,7 +34,7 @@ use Rattle.rules.specs.Calls.{bytes}
 use Rattle.rules.specs.Events.{view, event, meant, meaning, characterEvent}
 
 abbrev pub begun : World
-begun = world (replicate 240 0) (2 ∷ 5 ∷ 3 ∷ 0 ∷ (replicate 252 0 ++ (3 ∷ 2 ∷ 160 ∷ replicate 765 0))) (startState (config 8 1))
+begun = world (replicate 240 0) (2 ∷ 5 ∷ 3 ∷ 0 ∷ (replicate 252 0 ++ (3 ∷ 2 ∷ 160 ∷ replicate 765 0))) (startState (config 8 1) 3)
 
 abbrev pub bar : List ℕ
 bar = 254 ∷ 103 ∷ 0 ∷ 1 ∷ 10 ∷ 2 ∷ 19 ∷ 5 ∷ 254 ∷ 105 ∷ 0 ∷ 0 ∷ []

@@ -1,6 +1,6 @@
 -- A good world by its parts: what is good of each part that a command puts anew, with the board's choice and the length of the store beside them; both directions.
 -- Assumes nothing.
-use mathlib.Core.Path.{_≡_, refl}
+use mathlib.Core.Path.{_≡_, refl, sym, subst}
 use mathlib.Core.Bool.{Bool, true, false}
 use mathlib.Core.List.{List, []}
 use Prim.Native.Nat.{ℕ, _+_, _≤_, _<_}
@@ -13,8 +13,8 @@ use Rattle.pixels.proofs.Tests.{by-test}
 use Rattle.canvas.specs.Sizes.{isHeight}
 use Rattle.queue.specs.declared.Flow.{Flow}
 use Rattle.queue.specs.Record.{Bytes}
-use Rattle.directory.specs.Directory.{validOf}
-use Rattle.file_laws.proofs.Written.{and-both}
+use Rattle.directory.specs.Directory.{entries, sizesIn, validOf}
+use Rattle.file_laws.proofs.Written.{valid, and-both}
 use Rattle.state.specs.declared.Phase.{Phase}
 use Rattle.state.specs.declared.Text.{Text}
 use Rattle.state.specs.declared.Drawing.{Drawing}
@@ -30,8 +30,8 @@ use Rattle.state.specs.Editions.{isEdition}
 use Rattle.state.specs.Soundness.{every, soundPhase, soundText, soundPort, soundBar, soundStrip, soundPanel, soundConfig, soundState, thresholdsFit}
 use Rattle.state.specs.Canonical.{canonicalPhase, canonicalArguments, canonicalPort, canonicalBar, canonicalStrip, canonicalSerial, canonicalPanel, canonicalState}
 use Rattle.state.specs.Fits.{PhaseFits, ArgsFit, TextFits, DrawingFits, FlowFits, RefusalsFit, PortFits, BarFits, StripFits, SerialFits, PanelFits, ConfigFits}
-use Rattle.rules.specs.World.{World, height, edition, port, panel, withFramebuffer, withStore, withPort, withPanel, putText, Outcome, done, refused, refuseIf}
-use Rattle.rules.specs.Sound.{Welcome, Good}
+use Rattle.rules.specs.World.{World, height, edition, port, panel, used, withFramebuffer, withStore, withPort, withPanel, withUsed, putText, Outcome, done, refused, refuseIf}
+use Rattle.rules.specs.Sound.{storeMost, Welcome, Good}
 
 -- ---- the parts
 
@@ -83,11 +83,17 @@ pub record PanelGood (h : ℕ) (q : Panel) : Type 0 where
   pub contrast : q .contrast < 256
   pub minutes : q .backlight .minutes < 256
 
--- m bytes of store
-pub record StoreGood (m : ℕ) (s : List ℕ) : Type 0 where
+-- m bytes of store, of whose file area u are used
+pub record StoreGood (m u : ℕ) (s : List ℕ) : Type 0 where
   pub bytes : Bytes s
   pub valid : validOf s ≡ true
+  pub most : length s ≤ storeMost
   pub long : length s ≡ m
+  pub sum : u ≡ sizesIn (entries s)
+
+-- two bytes hold it
+pub used-fits : {m u : ℕ} {s : List ℕ} → StoreGood m u s → u < 65536
+used-fits {m} {u} {s} g = omega (arith, g .sum, g .most, valid s (g .valid) .room)
 
 -- c is what was chosen at start
 pub record ConfigGood (c d : Config) : Type 0 where
@@ -99,7 +105,7 @@ pub record Parts (c : Config) (m : ℕ) (w : World) : Type 0 where
   pub config : ConfigGood c (w .state .config)
   pub port-good : PortGood (edition w) (port w) (w .store)
   pub panel-good : PanelGood (height w) (panel w)
-  pub store : StoreGood m (w .store)
+  pub store : StoreGood m (used w) (w .store)
   pub framebuffer : Bytes (w .framebuffer)
 
 -- ---- from a good world to its parts
@@ -142,7 +148,7 @@ parts {w} g =
       config = record { same = refl; known = t .0; fits = g .fits .config };
       port-good = port-parts (edition w) (port w) (w .store) (t .1) (g .thresholds) (k .0) (g .fits .port) (g .upload);
       panel-good = panel-parts (height w) (panel w) (s .1) (k .1) (g .fits .panel);
-      store = record { bytes = g .store .bytes; valid = g .store .valid; long = refl };
+      store = record { bytes = g .store .bytes; valid = g .store .valid; most = g .store .most; long = refl; sum = g .sum };
       framebuffer = g .framebuffer;
     }
 
@@ -184,11 +190,12 @@ good {c} {m} {w} p =
       fits = record {
         config = p .config .fits;
         port = record { phase = q .phase .fits; args = q .phase .args; text = q .text .fits; drawing = q .drawing; flow = q .flow .fits; refusals = q .refusals };
-        panel = record { sixteen = r .bars .long; bars = r .bars .fits; eight = r .strips .long; strips = r .strips .fits; serial = r .serial .fits; contrast = r .contrast; minutes = r .minutes };
+        panel = record { sixteen = r .bars .long; bars = r .bars .fits; eight = r .strips .long; strips = r .strips .fits; serial = r .serial .fits; contrast = r .contrast; minutes = r .minutes; used = used-fits (p .store) };
       };
-      store = record { bytes = p .store .bytes; valid = p .store .valid };
+      store = record { bytes = p .store .bytes; valid = p .store .valid; most = p .store .most };
       framebuffer = p .framebuffer;
       upload = q .phase .welcome;
+      sum = p .store .sum;
     }
 
 -- ---- a part put anew
@@ -197,8 +204,15 @@ module _ {n : Config} {m : ℕ} {w : World} (p : Parts n m w) where
   pub put-port : {q : Port} → PortGood (edition w) q (w .store) → Parts n m (withPort w q)
   put-port g = record { port-good = g; panel-good = p .panel-good; store = p .store; framebuffer = p .framebuffer; config = p .config }
 
-  pub put-panel : {q : Panel} → PanelGood (height w) q → Parts n m (withPanel w q)
-  put-panel g = record { port-good = p .port-good; panel-good = g; store = p .store; framebuffer = p .framebuffer; config = p .config }
+  pub put-panel : {q : Panel} → PanelGood (height w) q → q .used ≡ used w → Parts n m (withPanel w q)
+  put-panel g e =
+      record {
+        port-good = p .port-good;
+        panel-good = g;
+        store = subst (λ (u : ℕ). StoreGood m u (w .store)) (sym e) (p .store);
+        framebuffer = p .framebuffer;
+        config = p .config;
+      }
 
   pub put-framebuffer : {g : List ℕ} → Bytes g → Parts n m (withFramebuffer w g)
   put-framebuffer g = record { port-good = p .port-good; panel-good = p .panel-good; store = p .store; framebuffer = g; config = p .config }
@@ -219,30 +233,32 @@ module _ {n : Config} {m : ℕ} {w : World} (p : Parts n m w) where
   put-phase g = let q = p .port-good in put-port (record { phase = g; text = q .text; drawing = q .drawing; flow = q .flow; refusals = q .refusals })
 
   pub put-bars : {l : List BarSlot} → BarsGood (height w) l → Parts n m (withPanel w (withBars (panel w) l))
-  put-bars g = let q = p .panel-good in put-panel (record { bars = g; strips = q .strips; serial = q .serial; contrast = q .contrast; minutes = q .minutes })
+  put-bars g = let q = p .panel-good in put-panel (record { bars = g; strips = q .strips; serial = q .serial; contrast = q .contrast; minutes = q .minutes }) refl
 
   pub put-strips : {l : List Strip} → StripsGood (height w) l → Parts n m (withPanel w (withStrips (panel w) l))
-  put-strips g = let q = p .panel-good in put-panel (record { bars = q .bars; strips = g; serial = q .serial; contrast = q .contrast; minutes = q .minutes })
+  put-strips g = let q = p .panel-good in put-panel (record { bars = q .bars; strips = g; serial = q .serial; contrast = q .contrast; minutes = q .minutes }) refl
 
-  -- the store, with the phase as it stands for the new one
-  pub put-store : {s : List ℕ} → StoreGood m s → PhaseGood (edition w) (port w .line .phase) (port w .line .args) s → Parts n m (withStore w s)
+  -- the store with its used room, and with the phase as it stands for the new one
+  pub put-store : {u : ℕ} {s : List ℕ} → StoreGood m u s → PhaseGood (edition w) (port w .line .phase) (port w .line .args) s → Parts n m (withUsed (withStore w s) u)
   put-store g f =
       let q = p .port-good in
+      let r = p .panel-good in
       record {
         port-good = record { phase = f; text = q .text; drawing = q .drawing; flow = q .flow; refusals = q .refusals };
-        panel-good = p .panel-good;
+        panel-good = record { bars = r .bars; strips = r .strips; serial = r .serial; contrast = r .contrast; minutes = r .minutes };
         store = g;
         framebuffer = p .framebuffer;
         config = p .config;
       }
 
   -- both at once
-  pub put-both : {f : Phase} {a s : List ℕ} → StoreGood m s → PhaseGood (edition w) f a s → Parts n m (withPort (withStore w s) (withPhase (port w) f a))
+  pub put-both : {u : ℕ} {f : Phase} {a s : List ℕ} → StoreGood m u s → PhaseGood (edition w) f a s → Parts n m (withPort (withUsed (withStore w s) u) (withPhase (port w) f a))
   put-both g f =
       let q = p .port-good in
+      let r = p .panel-good in
       record {
         port-good = record { phase = f; text = q .text; drawing = q .drawing; flow = q .flow; refusals = q .refusals };
-        panel-good = p .panel-good;
+        panel-good = record { bars = r .bars; strips = r .strips; serial = r .serial; contrast = r .contrast; minutes = r .minutes };
         store = g;
         framebuffer = p .framebuffer;
         config = p .config;

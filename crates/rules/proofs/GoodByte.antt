@@ -10,7 +10,8 @@ use lib.ListN.{length, take, set}
 use borrow.Author.Tests.{ltb-true, lt-ltb, eqb-false}
 use Rattle.pixels.proofs.Tests.{by-test}
 use Rattle.bar_ledger.proofs.Keep.{keeps-out}
-use Rattle.directory.specs.Directory.{validOf}
+use Rattle.directory.specs.Directory.{entries, sizesIn, validOf}
+use Rattle.file_laws.proofs.Written.{valid}
 use Rattle.queue.specs.Record.{Bytes}
 use Rattle.state.specs.declared.Command.{Command}
 use Rattle.state.specs.declared.Command.the-variants.{Unknown, Clear, Home, SetPoint, SetPlace, WrapOn, WrapOff, ScrollOn, ScrollOff, ChooseFont, SetMetrics, SetColour, DrawPixel, DrawLine, ContinueLine, DrawFrame, FillRectangle, SetUpBar, WriteBar, SetUpStrip, ShiftStrip, ShowBitmap, DrawInline, UploadFont, UploadBitmap, DeleteFile, Purge, FlowOn, FlowOff, SetContrast, BacklightOn, BacklightOff, SetSerial}
@@ -29,7 +30,7 @@ use Rattle.rules.specs.Numbers.{numberBytes, numberAt, sizeIn}
 use Rattle.rules.specs.Step.{obey, outside, code, highBitmap, noBitmap, argument, alone, byPhase, waits, Input, byte, time, outcome, refuse, after, step}
 use Rattle.rules.specs.Calls.{bytes, run}
 use Rattle.rules.specs.Events.{view, event}
-use Rattle.rules.specs.Sound.{Comes, ComesAll, Good}
+use Rattle.rules.specs.Sound.{storeMost, Comes, ComesAll, Good}
 use Rattle.rules.proofs.ByByte.{input-steps}
 use Rattle.rules.proofs.Good.{PhaseGood, Parts, parts, good, put-text, put-refusals, put-phase, Leaves, passes}
 use Rattle.rules.proofs.GoodLists.{bytes-none, bytes-set, args-set, zeros-set}
@@ -216,14 +217,15 @@ store-length w i g h = parts-step (parts g) i h .store .long
 
 -- ---- the start
 
-pub good-start : (c : Config) (g s : List ℕ) → soundConfig c ≡ true → ConfigFits c → Bytes g → Bytes s → validOf s ≡ true → Good (world g s (startState c))
-good-start c g s k f b d v =
+pub good-start : (c : Config) (g s : List ℕ) → soundConfig c ≡ true → ConfigFits c → Bytes g → Bytes s → validOf s ≡ true → length s ≤ storeMost → Good (world g s (startState c (sizesIn (entries s))))
+good-start c g s k f b d v l =
     record {
-      sound = start-sound c k;
+      sound = start-sound c _ k;
       thresholds = start-thresholds (c .height);
-      canonical = start-canonical c;
-      fits = start-fits c f;
-      store = record { bytes = d; valid = v };
+      canonical = start-canonical c _;
+      fits = start-fits c _ f (omega (arith, l, valid s v .room));
+      store = record { bytes = d; valid = v; most = l };
       framebuffer = b;
       upload = tt;
+      sum = refl;
     }

@@ -186,19 +186,19 @@ module _ {n : Config} {m : ℕ} {w : World} (p : Parts n m w) where
 
   pub contrast-good : (c : ℕ) → c < 256 → Leaves n m (setContrast w c)
   unfolding setContrast
-  contrast-good c h = let q = p .panel-good in put-panel p (record { bars = q .bars; strips = q .strips; serial = q .serial; contrast = h; minutes = q .minutes })
+  contrast-good c h = let q = p .panel-good in put-panel p (record { bars = q .bars; strips = q .strips; serial = q .serial; contrast = h; minutes = q .minutes }) refl
 
   pub backlight-on-good : (c : ℕ) → c < 256 → Leaves n m (backlightOn w c)
   unfolding backlightOn
-  backlight-on-good c h = let q = p .panel-good in put-panel p (record { bars = q .bars; strips = q .strips; serial = q .serial; contrast = q .contrast; minutes = h })
+  backlight-on-good c h = let q = p .panel-good in put-panel p (record { bars = q .bars; strips = q .strips; serial = q .serial; contrast = q .contrast; minutes = h }) refl
 
   pub backlight-off-good : Leaves n m (backlightOff w)
   unfolding backlightOff
-  backlight-off-good = let q = p .panel-good in put-panel p (record { bars = q .bars; strips = q .strips; serial = q .serial; contrast = q .contrast; minutes = q .minutes })
+  backlight-off-good = let q = p .panel-good in put-panel p (record { bars = q .bars; strips = q .strips; serial = q .serial; contrast = q .contrast; minutes = q .minutes }) refl
 
   pub serial-good : (a b : ℕ) → a < 256 → b < 256 → Leaves n m (setSerial w a b)
   unfolding setSerial canonicalSerial
   serial-good a b h k =
       let q = p .panel-good in
       by-test (Leaves n m) (panel w .serial .on) _ _ (λ _. p)
-      (λ _. put-panel p (record { bars = q .bars; strips = q .strips; serial = record { canonical = refl; fits = record { a = h; b = k } }; contrast = q .contrast; minutes = q .minutes }))
+      (λ _. put-panel p (record { bars = q .bars; strips = q .strips; serial = record { canonical = refl; fits = record { a = h; b = k } }; contrast = q .contrast; minutes = q .minutes }) refl)

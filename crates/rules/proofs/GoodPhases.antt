@@ -12,10 +12,9 @@ use borrow.Author.Tests.{ltb-true, lt-ltb, leb-false, eqb-false, not-false}
 use Rattle.pixels.proofs.Painting.{bytes-repaint}
 use Rattle.pixels.proofs.Tests.{by-test}
 use Rattle.bitmap.specs.Bitmaps.{rowBytes}
-use Rattle.directory.specs.Directory.{entries, sizesIn, hasFile}
-use Rattle.files.specs.Files.{deleted, purged, storedByte}
+use Rattle.directory.specs.Directory.{entries, bytesIn, hasFile}
+use Rattle.files.specs.Files.{unusedOf, deleted, purged, storedByte}
 use Rattle.file_laws.proofs.Written.{and-both}
-use Rattle.file_laws.proofs.Meaning.{entries-stored}
 use Rattle.state.specs.declared.Phase.{Phase}
 use Rattle.state.specs.declared.Phase.the-variants.{Idle, Inline, Upload}
 use Rattle.state.specs.declared.Config.{Config}
@@ -24,7 +23,7 @@ use Rattle.state.specs.State.{noArgs, startText}
 use Rattle.state.specs.Soundness.{every, inlineBytes, soundPhase, soundInline, soundUpload}
 use Rattle.state.specs.Canonical.{gathered, canonicalUpload, canonicalPhase}
 use Rattle.state.specs.Fits.{PhaseFits}
-use Rattle.rules.specs.World.{World, height, edition, port}
+use Rattle.rules.specs.World.{World, height, edition, port, used}
 use Rattle.rules.specs.Numbers.{tooHigh}
 use Rattle.rules.specs.Drawing.{ordered}
 use Rattle.rules.specs.Pictures.{beginInline, inlineData}
@@ -32,7 +31,7 @@ use Rattle.rules.specs.Files.{inUse, kindOf, lacksSpace, beginUpload, co
 use Rattle.rules.specs.Sound.{Welcome}
 use Rattle.rules.proofs.Good.{PhaseGood, TextGood, StoreGood, Parts, edition-known, put-framebuffer, put-text, put-phase, put-store, put-both, Leaves, passes}
 use Rattle.rules.proofs.GoodLists.{no-args}
-use Rattle.rules.proofs.GoodStore.{isSort, nameable, room, stored-good, appended-good, deleted-good, purged-good}
+use Rattle.rules.proofs.GoodStore.{isSort, nameable, tight, room, same-entries, stored-good, appended-good, deleted-good, purged-good}
 use Rattle.rules.proofs.GoodText.{font-good}
 
 -- a phase with no arguments
@@ -60,12 +59,11 @@ inline-few x1 y1 x2 y2 h k =
 
 -- ---- uploads: a stored byte changes nothing that the tests ask for
 
-still-fresh : {m : ℕ} {s : List ℕ} → StoreGood m s → (k n j c : ℕ) → inUse s k n ≡ false → inUse (storedByte s j c) k n ≡ false
-still-fresh {m} {s} g k n j c h = rw (entries-stored s (g .bytes) (g .valid) j c) h
+still-fresh : {m u : ℕ} {s : List ℕ} → StoreGood m u s → (k n j c : ℕ) → inUse s k n ≡ false → inUse (storedByte s u j c) k n ≡ false
+still-fresh {m} {u} {s} g k n j c h = rw (same-entries g j c) h
 
-pub still-room : {m : ℕ} {s : List ℕ} → StoreGood m s → (k z j c : ℕ) → lacksSpace s k z ≡ false → lacksSpace (storedByte s j c) k z ≡ false
-unfolding lacksSpace
-still-room {m} {s} g k z j c h = rw (entries-stored s (g .bytes) (g .valid) j c, length-set s (256 + sizesIn (entries s) + j) c) h
+pub still-room : {m u : ℕ} {s : List ℕ} → StoreGood m u s → (k z j c : ℕ) → tight s k z ≡ false → tight (storedByte s u j c) k z ≡ false
+still-room {m} {u} {s} g k z j c h = rw (same-entries g j c, length-set s (256 + u + j) c) h
 
 start-text : (h : ℕ) → h < 256 → TextGood (startText h)
 start-text h k = omega arith
@@ -93,10 +91,13 @@ module _ {n : Config} {m : ℕ} {w : World} (p : Parts n m w) where
   upload-good k i z e hk hi ho =
       by-test (Leaves n m) (tooHigh i) _ _ (λ _. omega arith) (λ t.
       by-test (Leaves n m) (inUse (w .store) k i) _ _ (λ _. omega arith) (λ u.
-      by-test (Leaves n m) (lacksSpace (w .store) (kindOf (edition w) k) z) _ _ (λ _. omega arith) (λ v.
-      let r = room (w .store) (kindOf (edition w) k) z v in
+      let end = bytesIn (entries (w .store)) in
+      let free = unusedOf (w .store) (used w) in
+      by-test (Leaves n m) (lacksSpace end free (kindOf (edition w) k) z) _ _ (λ _. omega arith) (λ v.
+      let r = room end free (kindOf (edition w) k) z v in
+      let v' : tight (w .store) (kindOf (edition w) k) z ≡ false = rw (p .store .sum) at v in
       put-phase p (settled (edition w) (Upload k i z 0 false 0 0) (w .store) (rw (lt-ltb 0 z (omega (arith, eqb-false z 0 (r .some))))) (rw e) refl
-      (hk, hi, r .small, omega arith, omega arith, omega arith) (nameable (edition w) i (edition-known p) t ho, u, v)))))
+      (hk, hi, r .small, omega arith, omega arith, omega arith) (nameable (edition w) i (edition-known p) t ho, u, v')))))
 
   -- it begins to wait anew
   again : (k i z s : ℕ) (v : Bool) (c t : ℕ) → soundPhase (edition w) (Upload k i z s v c t) ≡ true → soundUpload z s 0 ≡ true
@@ -113,7 +114,7 @@ module _ {n : Config} {m : ℕ} {w : World} (p : Parts n m w) where
       let x = still-fresh (p .store) k i s c (u .1) in
       let y = still-room (p .store) (kindOf (edition w) k) z s c (u .2) in
       by-test (Parts n m) (ltb (s + 1) z) _ _
-      (λ h. put-both p g (settled (edition w) (Upload k i z (s + 1) false 0 0) (storedByte (w .store) s c) (rw h) (rw e) refl
+      (λ h. put-both p g (settled (edition w) (Upload k i z (s + 1) false 0 0) (storedByte (w .store) (used w) s c) (rw h) (rw e) refl
       (f .0, f .1, f .2, omega (arith, ltb-true (s + 1) z h, f .2), omega arith, omega arith) (u .0, x, y)))
       (λ _. put-both p (appended-good g (edition w) k i z (edition-known p) e (u .0) (f .2) x y) (idle-good (edition w) _))
 

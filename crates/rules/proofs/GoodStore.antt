@@ -1,9 +1,9 @@
--- The store stays good, and as long as it was, by every write of the rules: a byte stored, a record more, a file less, none at all.
+-- The store stays good, as long as it was and with the sum of its file sizes kept, by every write of the rules: a byte stored, a record more, a file less, none at all.
 -- Assumes nothing.
-use mathlib.Core.Path.{_≡_, refl, ap, _∙_}
+use mathlib.Core.Path.{_≡_, refl, sym, ap, _∙_}
 use mathlib.Core.Bool.{Bool, true, false, _&&_, _||_, or-false}
-use mathlib.Core.List.{List}
-use Prim.Native.Nat.{ℕ, _+_, _-_, _≤_, _<_, min}
+use mathlib.Core.List.{List, [], _∷_, _++_}
+use Prim.Native.Nat.{ℕ, _+_, _-_, _%_, _≤_, _<_, min}
 use native.Mathlib.Omega.{arith}
 use native.Mathlib.Decide.{decLt}
 use lib.Dec.{eqb, leb, ltb}
@@ -14,22 +14,23 @@ use Rattle.pixels.proofs.Tests.{by-test, or-one, or-two}
 use Rattle.directory.specs.declared.Entry.{Entry}
 use Rattle.directory.specs.declared.Found.{Found}
 use Rattle.directory.specs.declared.Found.the-variants.{At, Nothing}
-use Rattle.directory.specs.Directory.{lengthOf, sortOf, maxNumber, maxRecords, entries, bytesIn, sizesIn, hasFile, findOf}
+use Rattle.directory.specs.Directory.{lengthOf, sortOf, maxNumber, maxRecords, entries, bytesIn, sizesIn, hasFile, findOf, foundSize, validOf}
 use Rattle.files.specs.Files.{unusedOf, entry, recordBytes, appended, deletedAt, deleted, purged, storedByte}
 use Rattle.files.specs.Moves.{filesClosed, recordsClosed, closed}
 use Rattle.file_laws.specs.Layout.{directoryOf, before, after, without, sizeOf, movedDown, withoutFile}
-use Rattle.file_laws.proofs.Written.{Proper, valid, and-both, directory-long}
+use Rattle.file_laws.proofs.Written.{Proper, valid, and-both, directory-long, sizes-append}
+use Rattle.file_laws.proofs.Append.{entries-more}
 use Rattle.file_laws.proofs.Records.{record-room, record-bytes}
 use Rattle.file_laws.proofs.Delete.{split, sizes-cut}
-use Rattle.file_laws.proofs.Kept.{all-left, short}
-use Rattle.file_laws.proofs.Rules.{fair, valid-less, valid-more, valid-none}
-use Rattle.file_laws.proofs.Meaning.{long-enough, append-means, delete-means, purge-means, valid-stored}
+use Rattle.file_laws.proofs.Kept.{all-left, short, entries-less}
+use Rattle.file_laws.proofs.Rules.{fair, valid-less, valid-more, valid-none, entries-none}
+use Rattle.file_laws.proofs.Meaning.{long-enough, append-means, found, delete-means, freed, purge-means, entries-stored, valid-stored}
 use Rattle.queue.specs.Record.{Bytes}
 use Rattle.state.specs.Editions.{older, newer, isEdition}
 use Rattle.state.proofs.Editions.{at-editions}
 use Rattle.rules.specs.Numbers.{tooHigh}
 use Rattle.rules.specs.Files.{inUse, kindOf, lacksSpace}
-use Rattle.rules.specs.Sound.{highest}
+use Rattle.rules.specs.Sound.{storeMost, highest}
 use Rattle.rules.proofs.Good.{StoreGood}
 use Rattle.rules.proofs.GoodLists.{bytes-set, bytes-drop, bytes-zeros, bytes-paste}
 
@@ -78,33 +79,37 @@ module _ (n z : ℕ) (hz : z < 65536) where
   written e k he hk h =
       at-editions (λ (x : ℕ). ltb (highest x) n ≡ false → Written x k n z) (λ f. older-written (ltb-false 255 n f) k hk) (λ f. newer-written (ltb-false maxNumber n f) k hk) e he h
 
--- where 24 is not given
-pub record Room (s : List ℕ) (k z : ℕ) : Type 0 where
+-- 24 by the directory's own sums
+abbrev pub tight : List ℕ → ℕ → ℕ → Bool
+tight s k z = lacksSpace (bytesIn (entries s)) (unusedOf s (sizesIn (entries s))) k z
+
+-- where 24 is not given, with records up to byte e and f bytes unused
+pub record Room (e f k z : ℕ) : Type 0 where
   pub some : eqb z 0 ≡ false
-  pub few : bytesIn (entries s) + lengthOf k ≤ maxRecords
-  pub fits : z ≤ unusedOf s
+  pub few : e + lengthOf k ≤ maxRecords
+  pub fits : z ≤ f
   pub small : z < 65536
 
-pub room : (s : List ℕ) (k z : ℕ) → lacksSpace s k z ≡ false → Room s k z
+pub room : (e f k z : ℕ) → lacksSpace e f k z ≡ false → Room e f k z
 unfolding lacksSpace
-room s k z h =
-    let few = ltb maxRecords (bytesIn (entries s) + lengthOf k) in
-    let fits = ltb (unusedOf s) z in
+room e f k z h =
+    let few = ltb maxRecords (e + lengthOf k) in
+    let fits = ltb f z in
     let a = or-one (eqb z 0 || few || fits) (leb 65536 z) h in
     let b = or-one (eqb z 0 || few) fits a in
     record {
       some = or-one (eqb z 0) few b;
-      few = ltb-false maxRecords (bytesIn (entries s) + lengthOf k) (or-two (eqb z 0) few b);
-      fits = ltb-false (unusedOf s) z (or-two (eqb z 0 || few) fits a);
+      few = ltb-false maxRecords (e + lengthOf k) (or-two (eqb z 0) few b);
+      fits = ltb-false f z (or-two (eqb z 0 || few) fits a);
       small = leb-false 65536 z (or-two (eqb z 0 || few || fits) (leb 65536 z) h);
     }
 
 -- no store that passes the checks has room for 65,536 bytes, so that this reason adds nothing
-pub never-larger : (s : List ℕ) (z : ℕ) → length s ≤ 32768 → (ltb (unusedOf s) z || leb 65536 z) ≡ ltb (unusedOf s) z
-never-larger s z h =
+pub never-larger : (s : List ℕ) (u z : ℕ) → length s ≤ storeMost → (ltb (unusedOf s u) z || leb 65536 z) ≡ ltb (unusedOf s u) z
+never-larger s u z h =
     elim (decLt z 65536) [
-      | yes l ↦ rw (lt-leb 65536 z l) (or-false (ltb (unusedOf s) z))
-      | no l ↦ rw (lt-ltb (unusedOf s) z (omega arith))
+      | yes l ↦ rw (lt-leb 65536 z l) (or-false (ltb (unusedOf s u) z))
+      | no l ↦ rw (lt-ltb (unusedOf s u) z (omega arith))
     ]
 
 -- where 25 is not given
@@ -117,12 +122,22 @@ fresh s k n h = record { other = or-one (eqb k 1 && eqb n 1) (hasFile (entries s
 
 -- ---- a byte stored
 
-pub stored-good : {m : ℕ} {s : List ℕ} → StoreGood m s → (k c : ℕ) → c < 256 → StoreGood m (storedByte s k c)
-stored-good {m} {s} g k c h =
+-- where the kept sum says is where the directory says
+pub stored-there : {m u : ℕ} {s : List ℕ} → StoreGood m u s → (k c : ℕ) → storedByte s u k c ≡ storedByte s (sizesIn (entries s)) k c
+stored-there {m} {u} {s} g k c = ap (λ (x : ℕ). storedByte s x k c) (g .sum)
+
+pub same-entries : {m u : ℕ} {s : List ℕ} → StoreGood m u s → (k c : ℕ) → entries (storedByte s u k c) ≡ entries s
+same-entries {m} {u} {s} g k c = ap entries (stored-there g k c) ∙ entries-stored s (g .bytes) (g .valid) k c
+
+pub stored-good : {m u : ℕ} {s : List ℕ} → StoreGood m u s → (k c : ℕ) → c < 256 → StoreGood m u (storedByte s u k c)
+stored-good {m} {u} {s} g k c h =
+    let l = length-set s (256 + u + k) c in
     record {
-      bytes = bytes-set s (256 + sizesIn (entries s) + k) c (g .bytes) h;
-      valid = valid-stored s (g .bytes) (g .valid) k c;
-      long = length-set s (256 + sizesIn (entries s) + k) c ∙ g .long;
+      bytes = bytes-set s (256 + u + k) c (g .bytes) h;
+      valid = ap validOf (stored-there g k c) ∙ valid-stored s (g .bytes) (g .valid) k c;
+      most = omega (arith, l, g .most);
+      long = l ∙ g .long;
+      sum = g .sum ∙ sym (ap sizesIn (same-entries g k c));
     }
 
 -- ---- a record more
@@ -144,20 +159,29 @@ appended-long s e =
     length-paste s (bytesIn (entries s)) (recordBytes e) n (omega arith) (record-room e))
     (λ _. refl)
 
-pub appended-good : {m : ℕ} {s : List ℕ} → StoreGood m s → (e k n z : ℕ) → isEdition e ≡ true → isSort k ≡ true → ltb (highest e) n ≡ false → z < 65536
-    → inUse s k n ≡ false → lacksSpace s (kindOf e k) z ≡ false → StoreGood m (appended s (entry (kindOf e k) n z))
-appended-good {m} {s} g e k n z he hk hn hz u v =
+-- its size is used
+sum-more : (s : List ℕ) (e : Entry) → sizesIn (entries s ++ (e ∷ [])) ≡ sizesIn (entries s) + e .size
+unfolding sizesIn
+sum-more s e = omega (arith, sizes-append (entries s) (e ∷ []))
+
+pub appended-good : {m u : ℕ} {s : List ℕ} → StoreGood m u s → (e k n z : ℕ) → isEdition e ≡ true → isSort k ≡ true → ltb (highest e) n ≡ false → z < 65536
+    → inUse s k n ≡ false → tight s (kindOf e k) z ≡ false → StoreGood m ((u + z) % 65536) (appended s (entry (kindOf e k) n z))
+appended-good {m} {u} {s} g e k n z he hk hn hz i v =
     let l = long-enough s (g .valid) in
-    let r = room s (kindOf e k) z v in
-    let f = fresh s k n u in
+    let r = room (bytesIn (entries s)) (unusedOf s (sizesIn (entries s))) (kindOf e k) z v in
+    let f = fresh s k n i in
     let w = written n z hz e k he hk hn in
     let c = entry (kindOf e k) n z in
+    let few : bytesIn (entries s) + lengthOf (kindOf e k) ≤ 256 = omega (arith, r .few) in
+    let means = append-means s c (g .bytes) (g .valid) (w .proper) few in
+    let sums : sizesIn (entries (appended s c)) ≡ sizesIn (entries s) + z = ap (λ (x : List ℕ). sizesIn (entries x)) means ∙ ap sizesIn (entries-more s c (g .bytes) l (w .proper) few) ∙ sum-more s c in
     record {
       bytes = appended-bytes s c (g .bytes) (record-bytes c (w .small));
-      valid = rw (append-means s c (g .bytes) (g .valid) (w .proper) (omega (arith, r .few)))
-          (valid-more s c (g .bytes) l (g .valid) (w .proper) (r .few)
+      valid = rw means (valid-more s c (g .bytes) l (g .valid) (w .proper) (r .few)
           (fair c (r .some) (w .number) (rw (w .sort) (f .other))) (rw (w .sort) (f .new)) (r .fits));
+      most = omega (arith, appended-long s c, g .most);
       long = appended-long s c ∙ g .long;
+      sum = omega (arith, g .sum, sums, r .fits, g .most, valid s (g .valid) .room);
     }
 
 -- ---- a file less
@@ -178,27 +202,36 @@ deleted-bytes s k n b =
     by-test Bytes (leb (256 + sizesIn (entries s)) (length s)) _ _
     (λ _. deleted-at (findOf s k n) (bytesIn (entries s)) (sizesIn (entries s)) s b) (λ _. b)
 
-pub deleted-good : {m : ℕ} {s : List ℕ} → StoreGood m s → (k n : ℕ) → hasFile (entries s) k n ≡ true → StoreGood m (deleted s k n)
+pub deleted-good : {m u : ℕ} {s : List ℕ} → StoreGood m u s → (k n : ℕ) → hasFile (entries s) k n ≡ true → StoreGood m (u - foundSize (findOf s k n)) (deleted s k n)
 unfolding withoutFile
-deleted-good {m} {s} g k n has =
+deleted-good {m} {u} {s} g k n has =
     let b = g .bytes in
     let v = g .valid in
     let l = long-enough s v in
     let e = delete-means s b v k n has in
     let es = entries s in
-    let u = drop 256 s in
+    let area = drop 256 s in
     let x = sizesIn (before es k n) in
     let y = sizeOf es k n in
     let z = sizesIn (after es k n) in
-    let lu : length u ≡ length s - 256 = length-drop 256 s in
-    let ld : length (drop (x + y) u) ≡ length u - (x + y) = length-drop (x + y) u in
+    let lu : length area ≡ length s - 256 = length-drop 256 s in
+    let ld : length (drop (x + y) area) ≡ length area - (x + y) = length-drop (x + y) area in
     let c = sizes-cut s b l v k n has in
     let q = split es k n has .size in
     let r = valid s v .room in
-    let lm : length (movedDown u x y z) ≡ length u = length-paste u x (drop (x + y) u) z (omega arith) (omega arith) in
+    let lm : length (movedDown area x y z) ≡ length area = length-paste area x (drop (x + y) area) z (omega arith) (omega arith) in
     let lw : length (withoutFile s k n) ≡ length s =
-    length-append (directoryOf (without es k n)) (movedDown u x y z) ∙ omega (arith, directory-long (without es k n) (all-left s b l v k n has) (short s b l v k n has)) in
-    record { bytes = deleted-bytes s k n b; valid = rw e (valid-less s b l v k n has); long = ap length e ∙ lw ∙ g .long }
+    length-append (directoryOf (without es k n)) (movedDown area x y z) ∙ omega (arith, directory-long (without es k n) (all-left s b l v k n has) (short s b l v k n has)) in
+    let ls : length (deleted s k n) ≡ length s = ap length e ∙ lw in
+    let size : foundSize (findOf s k n) ≡ y = ap foundSize (found s b v k n has) in
+    let sums : sizesIn (entries (deleted s k n)) ≡ sizesIn (without es k n) = ap (λ (t : List ℕ). sizesIn (entries t)) e ∙ ap sizesIn (entries-less s b l v k n has) in
+    record {
+      bytes = deleted-bytes s k n b;
+      valid = rw e (valid-less s b l v k n has);
+      most = omega (arith, ls, g .most);
+      long = ls ∙ g .long;
+      sum = omega (arith, g .sum, size, sums, freed s b v k n has);
+    }
 
 -- ---- none at all
 
@@ -212,10 +245,14 @@ purged-long s =
     let r = length-replicate {A = ℕ} (min 256 (length s)) 0 in
     length-paste s 0 (replicate (min 256 (length s)) 0) (min 256 (length s)) (omega arith) (omega (arith, r))
 
-pub purged-good : {m : ℕ} {s : List ℕ} → StoreGood m s → StoreGood m (purged s)
-purged-good {m} {s} g =
+pub purged-good : {m u : ℕ} {s : List ℕ} → StoreGood m u s → StoreGood m 0 (purged s)
+unfolding sizesIn
+purged-good {m} {u} {s} g =
+    let e = purge-means s (long-enough s (g .valid)) in
     record {
       bytes = purged-bytes s (g .bytes);
-      valid = rw (purge-means s (long-enough s (g .valid))) (valid-none s);
+      valid = rw e (valid-none s);
+      most = omega (arith, purged-long s, g .most);
       long = purged-long s ∙ g .long;
+      sum = sym (ap (λ (t : List ℕ). sizesIn (entries t)) e ∙ ap sizesIn (entries-none s));
     }

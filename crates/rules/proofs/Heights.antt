@@ -27,7 +27,7 @@ use Rattle.rules.specs.Step.{after}
 
 -- h rows, just started
 abbrev fresh : ℕ → World
-fresh h = world (replicate (lengthFor h) 0) (replicate 1024 0) (startState (config h 1))
+fresh h = world (replicate (lengthFor h) 0) (replicate 1024 0) (startState (config h 1) 0)
 
 -- what an outcome leaves of it
 abbrev then : ℕ → (World → Outcome) → World
@@ -94,7 +94,7 @@ lines = (refl, refl, refl, refl)
 -- font 2, h rows high: character 65 alone, one column wide
 abbrev holding : ℕ → ℕ → ℕ → World
 holding rows h size =
-    world (replicate (lengthFor rows) 0) (1 ∷ 2 ∷ size ∷ 0 ∷ replicate 252 0 ++ (1 ∷ h ∷ 65 ∷ 65 ∷ 0 ∷ 7 ∷ 1 ∷ replicate 761 255)) (startState (config rows 1))
+    world (replicate (lengthFor rows) 0) (1 ∷ 2 ∷ size ∷ 0 ∷ replicate 252 0 ++ (1 ∷ h ∷ 65 ∷ 65 ∷ 0 ∷ 7 ∷ 1 ∷ replicate 761 255)) (startState (config rows 1) size)
 
 abbrev chosen : ℕ → ℕ → ℕ → ℕ
 chosen rows h size = textOf (after (holding rows h size) (chooseFont (holding rows h size) 2)) .font

@@ -25,7 +25,7 @@ use Rattle.rules.specs.Step.{after}
 abbrev held : World
 held =
     world (replicate 240 0)
-    (1 ∷ 2 ∷ 3 ∷ 0 ∷ (replicate 252 0 ++ (1 ∷ 1 ∷ 65 ∷ replicate 765 0))) (startState (config 8 1))
+    (1 ∷ 2 ∷ 3 ∷ 0 ∷ (replicate 252 0 ++ (1 ∷ 1 ∷ 65 ∷ replicate 765 0))) (startState (config 8 1) 3)
 
 -- with font n at (x, y)
 abbrev at : ℕ → ℕ → ℕ → World

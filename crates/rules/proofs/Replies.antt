@@ -12,7 +12,8 @@ use borrow.Author.Tests.{ltb-false}
 use Rattle.pixels.proofs.Tests.{by-test}
 use Rattle.directory.specs.declared.Found.{Found}
 use Rattle.directory.specs.declared.Found.the-variants.{At, Nothing}
-use Rattle.directory.specs.Directory.{findOf, entries, hasFile}
+use Rattle.directory.specs.Directory.{findOf, entries, bytesIn, hasFile}
+use Rattle.files.specs.Files.{unusedOf}
 use Rattle.bitmap.specs.Bitmaps.{packedBox}
 use Rattle.fonts.specs.Bitmaps.{isBitmap, bitmapWidth, bitmapHeight}
 use Rattle.opened_font.specs.Glyphs.{glyphOf}
@@ -23,7 +24,7 @@ use Rattle.state.specs.declared.Phase.the-variants.{Idle, Prefix, Gathering, In
 use Rattle.state.specs.Editions.{patience}
 use Rattle.state.specs.State.{barAt, stripAt}
 use Rattle.state.specs.Commands.{commandOf, argumentsOf}
-use Rattle.rules.specs.World.{World, height, edition, port, panel, withFramebuffer, putText, Outcome, done, refused, quietly, refuseIf, arg}
+use Rattle.rules.specs.World.{World, height, edition, port, panel, used, withFramebuffer, putText, Outcome, done, refused, quietly, refuseIf, arg}
 use Rattle.rules.specs.Numbers.{tooHigh, numberBytes, numberAt, sizeIn}
 use Rattle.rules.specs.Fonts.{Opened, opened, shut, openFont}
 use Rattle.rules.specs.Text.{Place, place, nowhere, atPoint, placeX, placeY, wrapped, fitted, fontChosen, chooseFont, placeIn, setPlace, Ink, Drawn, drawn, ignored, drawnBy, drawnAt, drawnOn, characterIn, character}
@@ -106,7 +107,7 @@ bitmap-brief w (At p a z) x y =
 upload-brief : (w : World) (k n z : ℕ) → Brief (beginUpload w k n z)
 unfolding beginUpload
 upload-brief w k n z =
-    brief-tell (tooHigh n) 19 _ (brief-tell (inUse (w .store) k n) 25 _ (brief-tell (lacksSpace (w .store) (kindOf (edition w) k) z) 24 _ (one (inPhase w (Upload k n z 0 false 0 0)) 1)))
+    brief-tell (tooHigh n) 19 _ (brief-tell (inUse (w .store) k n) 25 _ (brief-tell (lacksSpace (bytesIn (entries (w .store))) (unusedOf (w .store) (used w)) (kindOf (edition w) k) z) 24 _ (one (inPhase w (Upload k n z 0 false 0 0)) 1)))
 
 serial-brief : (w : World) (a b : ℕ) → Brief (setSerial w a b)
 unfolding setSerial

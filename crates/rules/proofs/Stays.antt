@@ -13,7 +13,8 @@ use borrow.Author.Tests.{ltb-true, ltb-false, lt-ltb, not-false}
 use Rattle.pixels.proofs.Tests.{by-test}
 use Rattle.directory.specs.declared.Found.{Found}
 use Rattle.directory.specs.declared.Found.the-variants.{At, Nothing}
-use Rattle.directory.specs.Directory.{findOf, entries, hasFile}
+use Rattle.directory.specs.Directory.{findOf, entries, bytesIn, hasFile}
+use Rattle.files.specs.Files.{unusedOf}
 use Rattle.opened_font.specs.Glyphs.{glyphOf}
 use Rattle.fonts.specs.Bitmaps.{isBitmap}
 use Rattle.file_laws.proofs.Written.{and-both}
@@ -27,7 +28,7 @@ use Rattle.state.specs.State.{barAt, stripAt}
 use Rattle.state.specs.Soundness.{soundPhase}
 use Rattle.state.specs.Canonical.{canonicalUpload, canonicalPhase}
 use Rattle.state.specs.Commands.{commandOf, argumentsOf}
-use Rattle.rules.specs.World.{World, height, edition, port, panel, Outcome, done, refused, refuseIf, arg}
+use Rattle.rules.specs.World.{World, height, edition, port, panel, used, Outcome, done, refused, refuseIf, arg}
 use Rattle.rules.specs.Numbers.{tooHigh, numberBytes, numberAt, sizeIn}
 use Rattle.rules.specs.Fonts.{Opened, opened, shut, openFont}
 use Rattle.rules.specs.Text.{placeX, placeY, Place, place, nowhere, wrapped, fitted, Ink, Drawn, drawn, ignored, drawnBy, drawnAt, drawnOn, characterIn, character, fontChosen, chooseFont, placeIn, setPlace}
@@ -49,7 +50,7 @@ use Rattle.rules.proofs.StaysStore.{stays-same, stays-then, stays-spare
 spared-same : (s : List ℕ) → Spared s s
 spared-same s = record { records = refl; files = λ k n. refl }
 
-data-spares : {m : ℕ} (w : World) → StoreGood m (w .store) → (k n z s : ℕ) (v : Bool) (c b : ℕ) → s + 1 < z → Spared (w .store) (after w (uploadData w k n z s v c b) .store)
+data-spares : {m : ℕ} (w : World) → StoreGood m (used w) (w .store) → (k n z s : ℕ) (v : Bool) (c b : ℕ) → s + 1 < z → Spared (w .store) (after w (uploadData w k n z s v c b) .store)
 unfolding uploadData after refuse
 data-spares w g k n z s false c b h = spared-same (w .store)
 data-spares w g k n z s true c b h =
@@ -66,7 +67,7 @@ abbrev Staying : List ℕ → ℕ → ℕ → Outcome → Type 0
 Staying s k n (done v r) = Stays s (v .store) k n
 Staying s k n (refused i r) = Unit {0}
 
-module _ {m : ℕ} (w : World) (good-store : StoreGood m (w .store)) (k n : ℕ) (has : hasFile (entries (w .store)) k n ≡ true) where
+module _ {m : ℕ} (w : World) (good-store : StoreGood m (used w) (w .store)) (k n : ℕ) (has : hasFile (entries (w .store)) k n ≡ true) where
   abbrev Keeps : Outcome → Type 0
   Keeps o = Staying (w .store) k n o
 
@@ -126,7 +127,7 @@ module _ {m : ℕ} (w : World) (good-store : StoreGood m (w .store)) (k n : ℕ)
   unfolding beginUpload
   upload-stays j i z =
       by-test (Staying (w .store) k n) (tooHigh i) _ _ (λ _. tt) (λ _. by-test (Staying (w .store) k n) (inUse (w .store) j i) _ _ (λ _. tt) (λ _.
-      by-test (Staying (w .store) k n) (lacksSpace (w .store) (kindOf (edition w) j) z) _ _ (λ _. tt) (λ _. same)))
+      by-test (Staying (w .store) k n) (lacksSpace (bytesIn (entries (w .store))) (unusedOf (w .store) (used w)) (kindOf (edition w) j) z) _ _ (λ _. tt) (λ _. same)))
 
   delete-stays : (t i : ℕ) → (eqb (t + 1) k && eqb i n) ≡ false → Keeps (deleteFile w t i)
   unfolding deleteFile

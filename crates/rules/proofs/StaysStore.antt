@@ -8,8 +8,8 @@ use native.Mathlib.Omega.{arith}
 use lib.Dec.{eqb, ltb}
 use borrow.Author.Tests.{eqb-true}
 use Rattle.directory.specs.declared.Entry.{Entry}
-use Rattle.directory.specs.Directory.{lengthOf, sortOf, entries, bytesIn, isFile, hasFile}
-use Rattle.files.specs.Files.{entry, appended, deleted, storedByte}
+use Rattle.directory.specs.Directory.{lengthOf, sortOf, entries, bytesIn, sizesIn, isFile, hasFile}
+use Rattle.files.specs.Files.{unusedOf, entry, appended, deleted, storedByte}
 use Rattle.file_laws.specs.Layout.{before, after, without}
 use Rattle.file_laws.proofs.Written.{and-both}
 use Rattle.file_laws.proofs.Append.{entries-more}
@@ -17,11 +17,11 @@ use Rattle.file_laws.proofs.Kept.{entries-less, file-kept}
 use Rattle.file_laws.proofs.Rules.{file-more}
 use Rattle.file_laws.proofs.Meaning.{long-enough, append-means, delete-means, entries-stored, file-stored}
 use Rattle.state.specs.Editions.{isEdition}
-use Rattle.rules.specs.Files.{kindOf, lacksSpace}
+use Rattle.rules.specs.Files.{kindOf}
 use Rattle.rules.specs.Sound.{highest}
 use Rattle.rules.specs.Stays.{Spared, Stays}
 use Rattle.rules.proofs.Good.{StoreGood}
-use Rattle.rules.proofs.GoodStore.{isSort, written, room}
+use Rattle.rules.proofs.GoodStore.{isSort, written, tight, room, stored-there}
 
 pub stays-same : (s : List ℕ) (k n : ℕ) → hasFile (entries s) k n ≡ true → Stays s s k n
 stays-same s k n h = record { there = h; bytes = refl }
@@ -34,8 +34,9 @@ stays-spared p k n h = record { there = rw (p .records) h; bytes = p .files k n 
 
 -- ---- a byte stored
 
-pub spared-stored : {m : ℕ} {s : List ℕ} → StoreGood m s → (j c : ℕ) → Spared s (storedByte s j c)
-spared-stored {m} {s} g j c = record { records = entries-stored s (g .bytes) (g .valid) j c; files = file-stored s (g .bytes) (g .valid) j c }
+pub spared-stored : {m u : ℕ} {s : List ℕ} → StoreGood m u s → (j c : ℕ) → Spared s (storedByte s u j c)
+spared-stored {m} {u} {s} g j c =
+    rw (stored-there g j c) (record { records = entries-stored s (g .bytes) (g .valid) j c; files = file-stored s (g .bytes) (g .valid) j c })
 
 -- ---- a record more
 
@@ -48,13 +49,13 @@ unfolding hasFile
 has-left [] fs k n h = absurd (false≢true h)
 has-left (e ∷ es) fs k n h = or-then (isFile e k n) (hasFile es k n) (hasFile (es ++ fs) k n) (λ g. has-left es fs k n g) h
 
-pub stays-appended : {m : ℕ} {s : List ℕ} → StoreGood m s → (e k n z : ℕ) → isEdition e ≡ true → isSort k ≡ true → ltb (highest e) n ≡ false → z < 65536
-    → lacksSpace s (kindOf e k) z ≡ false → (k′ n′ : ℕ) → hasFile (entries s) k′ n′ ≡ true → Stays s (appended s (entry (kindOf e k) n z)) k′ n′
-stays-appended {m} {s} g e k n z he hk hn hz v k′ n′ h =
+pub stays-appended : {m u : ℕ} {s : List ℕ} → StoreGood m u s → (e k n z : ℕ) → isEdition e ≡ true → isSort k ≡ true → ltb (highest e) n ≡ false → z < 65536
+    → tight s (kindOf e k) z ≡ false → (k′ n′ : ℕ) → hasFile (entries s) k′ n′ ≡ true → Stays s (appended s (entry (kindOf e k) n z)) k′ n′
+stays-appended {m} {u} {s} g e k n z he hk hn hz v k′ n′ h =
     let l = long-enough s (g .valid) in
     let p = written n z hz e k he hk hn .proper in
     let c = entry (kindOf e k) n z in
-    let one : bytesIn (entries s) + lengthOf (kindOf e k) ≤ 256 = omega (arith, room s (kindOf e k) z v .few) in
+    let one : bytesIn (entries s) + lengthOf (kindOf e k) ≤ 256 = omega (arith, room (bytesIn (entries s)) (unusedOf s (sizesIn (entries s))) (kindOf e k) z v .few) in
     rw (append-means s c (g .bytes) (g .valid) p one)
     (record {
       there = rw (entries-more s c (g .bytes) l p one) (has-left (entries s) (c ∷ []) k′ n′ h);
@@ -80,9 +81,9 @@ unfolding hasFile before after
 has-less [] k n k′ n′ f h = h
 has-less (e ∷ es) k n k′ n′ f h = less-cons e es k n k′ n′ (isFile e k n) refl f (λ g. has-less es k n k′ n′ f g) h
 
-pub stays-deleted : {m : ℕ} {s : List ℕ} → StoreGood m s → (k n : ℕ) → hasFile (entries s) k n ≡ true
+pub stays-deleted : {m u : ℕ} {s : List ℕ} → StoreGood m u s → (k n : ℕ) → hasFile (entries s) k n ≡ true
     → (k′ n′ : ℕ) → (eqb k k′ && eqb n n′) ≡ false → hasFile (entries s) k′ n′ ≡ true → Stays s (deleted s k n) k′ n′
-stays-deleted {m} {s} g k n has k′ n′ f h =
+stays-deleted {m} {u} {s} g k n has k′ n′ f h =
     let l = long-enough s (g .valid) in
     rw (delete-means s (g .bytes) (g .valid) k n has)
     (record {

@@ -8,7 +8,7 @@ use Rattle.state.specs.declared.Port.{Port}
 use Rattle.state.specs.declared.Panel.{Panel}
 use Rattle.state.specs.declared.Text.{Text}
 use Rattle.state.specs.declared.State.{State}
-use Rattle.state.specs.State.{state, withText}
+use Rattle.state.specs.State.{state, withText, withUsed as panelUsing}
 
 pub record World : Type 0 where
   pub framebuffer : List ℕ
@@ -45,6 +45,13 @@ withPanel w q = world (w .framebuffer) (w .store) (state (w .state .config) (por
 
 abbrev pub putText : World → Text → World
 putText w t = withPort w (withText (port w) t)
+
+-- the room of the file area that the stored files use, as the state keeps it
+abbrev pub used : World → ℕ
+used w = panel w .used
+
+abbrev pub withUsed : World → ℕ → World
+withUsed w u = withPanel w (panelUsing (panel w) u)
 
 -- WHAT A COMMAND, A CHARACTER OR A DATA BYTE COMES TO, with the bytes that it sends: the next world, or a refusal's number and no world
 pub data Outcome : Type 0 where

@@ -91,6 +91,7 @@ pub record PanelFits (q : Panel) : Type 0 where
   pub serial : SerialFits (q .serial)
   pub contrast : q .contrast < 256
   pub minutes : q .backlight .minutes < 256
+  pub used : q .used < 65536
 
 -- ---- the whole
 

@@ -69,14 +69,16 @@ startPort h =
       refusals = record { count = 0; last = 0 };
     }
 
-abbrev pub startPanel : Panel
-startPanel =
+-- u bytes of the file area are used
+abbrev pub startPanel : ℕ → Panel
+startPanel u =
     record {
       bars = replicate 16 noBar;
       strips = replicate 8 noStrip;
       serial = record { on = false; a = 0; b = 0 };
       contrast = 128;
       backlight = record { on = true; minutes = 0 };
+      used = u;
     }
 
 abbrev pub config : ℕ → ℕ → Config
@@ -85,8 +87,8 @@ config h e = record { height = h; edition = e }
 abbrev pub state : Config → Port → Panel → State
 state c p q = record { config = c; port = p; panel = q }
 
-abbrev pub startState : Config → State
-startState c = state c (startPort (c .height)) startPanel
+abbrev pub startState : Config → ℕ → State
+startState c u = state c (startPort (c .height)) (startPanel u)
 
 -- ---- parts put anew
 
@@ -110,16 +112,19 @@ abbrev pub withRefusals : Port → Refusals → Port
 withRefusals p r = record { line = p .line; text = p .text; drawing = p .drawing; flow = p .flow; refusals = r }
 
 abbrev pub withBars : Panel → List BarSlot → Panel
-withBars q l = record { bars = l; strips = q .strips; serial = q .serial; contrast = q .contrast; backlight = q .backlight }
+withBars q l = record { bars = l; strips = q .strips; serial = q .serial; contrast = q .contrast; backlight = q .backlight; used = q .used }
 
 abbrev pub withStrips : Panel → List Strip → Panel
-withStrips q l = record { bars = q .bars; strips = l; serial = q .serial; contrast = q .contrast; backlight = q .backlight }
+withStrips q l = record { bars = q .bars; strips = l; serial = q .serial; contrast = q .contrast; backlight = q .backlight; used = q .used }
 
 abbrev pub withSerial : Panel → Serial → Panel
-withSerial q s = record { bars = q .bars; strips = q .strips; serial = s; contrast = q .contrast; backlight = q .backlight }
+withSerial q s = record { bars = q .bars; strips = q .strips; serial = s; contrast = q .contrast; backlight = q .backlight; used = q .used }
 
 abbrev pub withContrast : Panel → ℕ → Panel
-withContrast q c = record { bars = q .bars; strips = q .strips; serial = q .serial; contrast = c; backlight = q .backlight }
+withContrast q c = record { bars = q .bars; strips = q .strips; serial = q .serial; contrast = c; backlight = q .backlight; used = q .used }
 
 abbrev pub withBacklight : Panel → Backlight → Panel
-withBacklight q b = record { bars = q .bars; strips = q .strips; serial = q .serial; contrast = q .contrast; backlight = b }
+withBacklight q b = record { bars = q .bars; strips = q .strips; serial = q .serial; contrast = q .contrast; backlight = b; used = q .used }
+
+abbrev pub withUsed : Panel → ℕ → Panel
+withUsed q u = record { bars = q .bars; strips = q .strips; serial = q .serial; contrast = q .contrast; backlight = q .backlight; used = u }

@@ -61,8 +61,8 @@ fn start_port(height: u8) -> Port
     }
 }
 
-fn start_panel() -> Panel
-    ensures { λ r. ⌜ r ≡ startPanel ⌝ }
+fn start_panel(used: u16) -> Panel
+    ensures { λ r. ⌜ r ≡ startPanel used ⌝ }
 {
     let slot = BarSlot {
         on: false,
@@ -95,15 +95,17 @@ fn start_panel() -> Panel
             on: true,
             minutes: 0,
         },
+        used,
     }
 }
 
-pub fn start_state(config: Config) -> State
-    ensures { λ r. ⌜ r ≡ startState config ⌝ }
+// Files in the store take so many bytes.
+pub fn start_state(config: Config, used: u16) -> State
+    ensures { λ r. ⌜ r ≡ startState config used ⌝ }
 {
     State {
         config,
         port: start_port(config.height),
-        panel: start_panel(),
+        panel: start_panel(used),
     }
 }

@@ -260,12 +260,14 @@ pub struct Backlight {
     pub minutes: u8,
 }
 
+// `used` is the room of the file area that the stored files take: the sum of their sizes.
 pub struct Panel {
     pub bars: [BarSlot; BARS],
     pub strips: [Strip; STRIPS],
     pub serial: Serial,
     pub contrast: u8,
     pub backlight: Backlight,
+    pub used: u16,
 }
 
 // What the board chose at start: the framebuffer's rows, and the edition of the upload protocol.

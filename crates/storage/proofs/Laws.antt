@@ -4,20 +4,22 @@ use mathlib.Core.Path.{_≡_, _∙_, refl, sym, ap}
 use mathlib.Core.Bool.{Bool, true, false, cond, not, _&&_, _||_}
 use mathlib.Core.List.{List, [], _∷_}
 use native.Mathlib.Omega.{arith}
-use Prim.Native.Nat.{ℕ, _+_, _<_, _≤_}
+use Prim.Native.Nat.{ℕ, _+_, _-_, _%_, _<_, _≤_}
 use lib.Dec.{eqb, leb, ltb}
 use borrow.Author.Tests.{not-true, not-false, eq-eqb, ne-eqb, lt-ltb, le-ltb, le-leb, lt-leb}
 use Rattle.directory.specs.declared.Entry.{Entry}
 use Rattle.directory.specs.declared.Totals.{Totals}
 use Rattle.directory.specs.declared.Found.{Found}
 use Rattle.directory.specs.declared.Found.the-variants.{At, Nothing}
-use Rattle.directory.specs.Directory.{maxNumber, maxRecords, lengthOf, entries, bytesIn, totalsOf, isFile, hasFile, findIn, findOf}
+use Rattle.directory.specs.Directory.{maxNumber, maxRecords, lengthOf, entries, bytesIn, totalsOf, isFile, hasFile, findIn, findOf, foundSize}
 use Rattle.files.specs.Files.{unusedOf, entry, appended, isThere, deleted, purged, storedByte}
 use Rattle.state.specs.declared.Phase.the-variants.{Idle, Upload}
 use Rattle.state.specs.declared.Port.{Port}
 use Rattle.state.specs.declared.State.{State}
 use Rattle.state.specs.Editions.{newer, patience}
-use Rattle.state.specs.State.{startText}
+use Rattle.state.specs.State.{state, startText, withUsed}
+use Rattle.record.specs.Reading.{panelOf}
+use Rattle.panel.specs.Revised.{revised}
 use Rattle.rules.specs.World.{world, putText, done, quietly, refused}
 use Rattle.rules.specs.Pictures.{inPhase}
 use Rattle.rules.specs.Text.{withFont}
@@ -78,47 +80,48 @@ highest-newer e h = rw (eq-eqb e newer h)
 pub highest-older : (e : ℕ) → (e ≡ newer → ⊥) → 255 ≡ highest e
 highest-older e h = rw (ne-eqb e newer h)
 
-module _ (s : List ℕ) (k z : ℕ) where
-  pub no-size : z ≡ 0 → true ≡ lacksSpace s k z
+module _ (e f k z : ℕ) where
+  pub no-size : z ≡ 0 → true ≡ lacksSpace e f k z
   unfolding lacksSpace
-  no-size e = rw e
+  no-size h = rw h
 
-  module _ (t : Totals) (n : ℕ) (h : z ≡ 0 → ⊥) (e : t ≡ totalsOf (entries s)) (m : n ≡ lengthOf k) where
-    records : t .end + n ≡ bytesIn (entries s) + lengthOf k
-    records = rw (ap (λ (u : Totals). u .end) e, m)
-
-    pub no-place : 255 < t .end + n → true ≡ lacksSpace s k z
+  module _ (n : ℕ) (h : z ≡ 0 → ⊥) (m : n ≡ lengthOf k) (few : n ≤ 7) where
+    pub no-place : 255 - n < e → true ≡ lacksSpace e f k z
     unfolding lacksSpace
-    no-place l = rw (ne-eqb z 0 h, lt-ltb maxRecords (bytesIn (entries s) + lengthOf k) (omega (arith, records)))
+    no-place l = rw (ne-eqb z 0 h, lt-ltb maxRecords (e + lengthOf k) (omega (arith, m)))
 
-    module _ (l : t .end + n ≤ 255) (u : ℕ) (f : u ≡ unusedOf s) where
-      pub no-bytes : u < z → true ≡ lacksSpace s k z
+    module _ (l : e ≤ 255 - n) where
+      pub no-bytes : f < z → true ≡ lacksSpace e f k z
       unfolding lacksSpace
-      no-bytes o = rw (ne-eqb z 0 h, le-ltb maxRecords (bytesIn (entries s) + lengthOf k) (omega (arith, records)), ← f, lt-ltb u z o)
+      no-bytes o = rw (ne-eqb z 0 h, le-ltb maxRecords (e + lengthOf k) (omega (arith, m)), lt-ltb f z o)
 
-      pub some-bytes : z ≤ u → leb 65536 z ≡ lacksSpace s k z
+      pub some-bytes : z ≤ f → leb 65536 z ≡ lacksSpace e f k z
       unfolding lacksSpace
-      some-bytes o = rw (ne-eqb z 0 h, le-ltb maxRecords (bytesIn (entries s) + lengthOf k) (omega (arith, records)), ← f, le-ltb u z o)
+      some-bytes o = rw (ne-eqb z 0 h, le-ltb maxRecords (e + lengthOf k) (omega (arith, m)), le-ltb f z o)
 
-module _ (s : List ℕ) (e k n z h : ℕ) (top : h ≡ highest e) where
-  pub away-high : h < n → true ≡ (ltb (highest e) n || inUse s k n || lacksSpace s (kindOf e k) z)
+-- records up to byte m, and f bytes unused
+module _ (s : List ℕ) (m f e k n z h : ℕ) (top : h ≡ highest e) where
+  pub away-high : h < n → true ≡ (ltb (highest e) n || inUse s k n || lacksSpace m f (kindOf e k) z)
   away-high l = rw (← top, lt-ltb h n l)
 
   module _ (l : n ≤ h) (t : Bool) (u : t ≡ inUse s k n) where
-    pub away-used : t ≡ true → true ≡ (ltb (highest e) n || inUse s k n || lacksSpace s (kindOf e k) z)
+    pub away-used : t ≡ true → true ≡ (ltb (highest e) n || inUse s k n || lacksSpace m f (kindOf e k) z)
     away-used o = rw (← top, le-ltb h n l, ← u, o)
 
-    pub away-room : (c : ℕ) (v : Bool) → t ≡ false → c ≡ kindOf e k → v ≡ lacksSpace s c z → v ≡ (ltb (highest e) n || inUse s k n || lacksSpace s (kindOf e k) z)
-    away-room c v o q f = f ∙ rw (← top, le-ltb h n l, ← u, o, q)
+    pub away-room : (a c : ℕ) (v : Bool) → t ≡ false → a ≡ f → c ≡ kindOf e k → v ≡ lacksSpace m a c z → v ≡ (ltb (highest e) n || inUse s k n || lacksSpace m f (kindOf e k) z)
+    away-room a c v o d q g = g ∙ rw (← top, le-ltb h n l, ← u, o, d, q)
 
 pub telling-is : (pt n : Port) (k : ℕ) (q : Reply) (r : Outcome) → n ≡ refusedPort pt k → q ≡ oneByte 8 → r ≡ sendingOf n q → r ≡ tellingOf pt k
 telling-is pt n k q r e f h = h ∙ rw (e, f)
 
 -- ---- uploads
 
+pub room-used : (p p' : List ℕ) (v w : ℕ) → v ≡ w → p' ≡ revised p (withUsed (panelOf p) v) → p' ≡ revised p (withUsed (panelOf p) w)
+room-used p p' v w ev e = e ∙ ap (λ (x : ℕ). revised p (withUsed (panelOf p) x)) ev
+
 -- a size that is not refused fits two bytes
-pub size-fits : (s : List ℕ) (k z : ℕ) (u : Bool) → u ≡ lacksSpace s k z → u ≡ false → z < 65536
-size-fits s k z u f o = room s k z (sym f ∙ o) .small
+pub size-fits : (e f k z : ℕ) (u : Bool) → u ≡ lacksSpace e f k z → u ≡ false → z < 65536
+size-fits e f k z u h o = room e f k z (sym h ∙ o) .small
 
 module _ (g s : List ℕ) (st : State) (k n z : ℕ) where
   pub upload-19 : maxNumber < n → beginUpload (world g s st) k n z ≡ refused 19 (8 ∷ [])
@@ -130,9 +133,11 @@ module _ (g s : List ℕ) (st : State) (k n z : ℕ) where
     unfolding beginUpload
     upload-25 h = rw (le-ltb maxNumber n l, ← e, h)
 
-    module _ (h : t ≡ false) (c : ℕ) (u : Bool) (d : c ≡ kindOf (st .config .edition) k) (f : u ≡ lacksSpace s c z) where
-      lacks : lacksSpace s (kindOf (st .config .edition) k) z ≡ u
-      lacks = ap (λ (x : ℕ). lacksSpace s x z) (sym d) ∙ sym f
+    -- y the totals, x what is used, a what is unused
+    module _ (h : t ≡ false) (y : Totals) (x a c : ℕ) (u : Bool) (ey : y ≡ totalsOf (entries s)) (ex : x ≡ st .panel .used) (ea : a ≡ unusedOf s x)
+        (d : c ≡ kindOf (st .config .edition) k) (f : u ≡ lacksSpace (y .end) a c z) where
+      lacks : lacksSpace (bytesIn (entries s)) (unusedOf s (st .panel .used)) (kindOf (st .config .edition) k) z ≡ u
+      lacks = sym (f ∙ rw (ap (λ (v : Totals). v .end) ey, ea, ex, d))
 
       pub upload-24 : u ≡ true → beginUpload (world g s st) k n z ≡ refused 24 (8 ∷ [])
       unfolding beginUpload
@@ -151,15 +156,16 @@ module _ (g s : List ℕ) (st : State) (k n z : ℕ) where
     unfolding uploadData
     data-26 v e h = rw (not-false v e, ne-eqb b 1 h)
 
-    pub data-more : (v : Bool) (s' : List ℕ) → not v ≡ false → b ≡ 1 → i + 1 < z → s' ≡ storedByte s i c
-        → uploadData (world g s st) k n z i v c b ≡ quietly (inPhase (world g s' st) (Upload k n z (i + 1) false 0 0))
-    unfolding uploadData
-    data-more v s' e h l f = rw (not-false v e, eq-eqb b 1 h, lt-ltb (i + 1) z l, f)
+    -- u bytes are used
+    module _ (v : Bool) (u : ℕ) (s' : List ℕ) (e : not v ≡ false) (h : b ≡ 1) (eu : u ≡ st .panel .used) (f : s' ≡ storedByte s u i c) where
+      pub data-more : i + 1 < z → uploadData (world g s st) k n z i v c b ≡ quietly (inPhase (world g s' st) (Upload k n z (i + 1) false 0 0))
+      unfolding uploadData
+      data-more l = rw (not-false v e, eq-eqb b 1 h, lt-ltb (i + 1) z l, ← eu, f)
 
-    pub data-last : (v : Bool) (q : ℕ) (s' s'' : List ℕ) → not v ≡ false → b ≡ 1 → z ≤ i + 1 → s' ≡ storedByte s i c → q ≡ kindOf (st .config .edition) k → s'' ≡ appended s' (entry q n z)
-        → uploadData (world g s st) k n z i v c b ≡ quietly (inPhase (world g s'' st) Idle)
-    unfolding uploadData
-    data-last v q s' s'' e h l f o d = rw (not-false v e, eq-eqb b 1 h, le-ltb (i + 1) z l, d, f, o)
+      pub data-last : (q : ℕ) (s'' : List ℕ) → z ≤ i + 1 → q ≡ kindOf (st .config .edition) k → s'' ≡ appended s' (entry q n z)
+          → uploadData (world g s st) k n z i v c b ≡ quietly (inPhase (world g s'' (state (st .config) (st .port) (withUsed (st .panel) ((u + z) % 65536)))) Idle)
+      unfolding uploadData
+      data-last q s'' l o d = rw (not-false v e, eq-eqb b 1 h, le-ltb (i + 1) z l, ← eu, d, f, o)
 
     -- b milliseconds after c
     module _ (v : Bool) (d : ℕ) where
@@ -173,6 +179,10 @@ module _ (g s : List ℕ) (st : State) (k n z : ℕ) where
 
 -- ---- delete and purge
 
+-- u is used, z of it by the file, and v without it
+pub room-freed : (p p' : List ℕ) (u v z : ℕ) → u ≡ panelOf p .used → v ≡ u - z → p' ≡ revised p (withUsed (panelOf p) v) → p' ≡ revised p (withUsed (panelOf p) (panelOf p .used - z))
+room-freed p p' u v z eu ev = room-used p p' v (panelOf p .used - z) (ev ∙ ap (λ (x : ℕ). x - z) eu)
+
 module _ (g s : List ℕ) (st : State) (t n : ℕ) where
   pub delete-20 : 2 ≤ t → deleteFile (world g s st) t n ≡ refused 20 []
   unfolding deleteFile
@@ -182,22 +192,31 @@ module _ (g s : List ℕ) (st : State) (t n : ℕ) where
   unfolding deleteFile
   delete-19 l m = rw (lt-leb 2 t l, lt-ltb maxNumber n m)
 
-  pub delete-22 : (b : Bool) → t < 2 → n ≤ maxNumber → b ≡ hasFile (entries s) (t + 1) n → not b ≡ true → deleteFile (world g s st) t n ≡ refused 22 []
-  unfolding deleteFile
-  delete-22 b l m e h = rw (lt-leb 2 t l, le-ltb maxNumber n m, ← e, h)
-
-  module _ (s' : List ℕ) (b : Bool) (l : t < 2) (m : n ≤ maxNumber) (e : b ≡ hasFile (entries s) (t + 1) n) (h : not b ≡ false) (gone : s' ≡ deleted s (t + 1) n) where
-    pub delete-chosen : t + 1 ≡ 1 → n ≡ st .port .text .font → deleteFile (world g s st) t n ≡ quietly (putText (world g s' st) (withFont (st .port .text) 1))
+  module _ (x : Found) (l : t < 2) (m : n ≤ maxNumber) (e : x ≡ findOf s (t + 1) n) where
+    pub delete-22 : x ≡ Nothing → deleteFile (world g s st) t n ≡ refused 22 []
     unfolding deleteFile
-    delete-chosen k f = rw (lt-leb 2 t l, le-ltb maxNumber n m, ← e, h, ← gone, eq-eqb (t + 1) 1 k, eq-eqb n (st .port .text .font) f)
+    delete-22 h = rw (lt-leb 2 t l, le-ltb maxNumber n m, ← stored-not s (t + 1) n x e h)
 
-    pub delete-bitmap : (t + 1 ≡ 1 → ⊥) → deleteFile (world g s st) t n ≡ quietly (world g s' st)
-    unfolding deleteFile
-    delete-bitmap k = rw (lt-leb 2 t l, le-ltb maxNumber n m, ← e, h, ← gone, ne-eqb (t + 1) 1 k)
+    -- z its size
+    module _ (p a z : ℕ) (s' : List ℕ) (h : x ≡ At p a z) (gone : s' ≡ deleted s (t + 1) n) where
+      there : hasFile (entries s) (t + 1) n ≡ true
+      there = sym (stored-yes s (t + 1) n p a z x e h)
 
-    pub delete-other : (n ≡ st .port .text .font → ⊥) → t + 1 ≡ 1 → deleteFile (world g s st) t n ≡ quietly (world g s' st)
-    unfolding deleteFile
-    delete-other f k = rw (lt-leb 2 t l, le-ltb maxNumber n m, ← e, h, ← gone, eq-eqb (t + 1) 1 k, ne-eqb n (st .port .text .font) f)
+      left : st .panel .used - foundSize (findOf s (t + 1) n) ≡ st .panel .used - z
+      left = ap (λ (y : Found). st .panel .used - foundSize y) (sym e ∙ h)
+
+      pub delete-chosen : t + 1 ≡ 1 → n ≡ st .port .text .font
+          → deleteFile (world g s st) t n ≡ quietly (putText (world g s' (state (st .config) (st .port) (withUsed (st .panel) (st .panel .used - z)))) (withFont (st .port .text) 1))
+      unfolding deleteFile
+      delete-chosen k f = rw (lt-leb 2 t l, le-ltb maxNumber n m, there, ← gone, left, eq-eqb (t + 1) 1 k, eq-eqb n (st .port .text .font) f)
+
+      pub delete-bitmap : (t + 1 ≡ 1 → ⊥) → deleteFile (world g s st) t n ≡ quietly (world g s' (state (st .config) (st .port) (withUsed (st .panel) (st .panel .used - z))))
+      unfolding deleteFile
+      delete-bitmap k = rw (lt-leb 2 t l, le-ltb maxNumber n m, there, ← gone, left, ne-eqb (t + 1) 1 k)
+
+      pub delete-other : (n ≡ st .port .text .font → ⊥) → t + 1 ≡ 1 → deleteFile (world g s st) t n ≡ quietly (world g s' (state (st .config) (st .port) (withUsed (st .panel) (st .panel .used - z))))
+      unfolding deleteFile
+      delete-other f k = rw (lt-leb 2 t l, le-ltb maxNumber n m, there, ← gone, left, eq-eqb (t + 1) 1 k, ne-eqb n (st .port .text .font) f)
 
 module _ (g s : List ℕ) (st : State) (a b : ℕ) where
   pub purge-first : (a ≡ 89 → ⊥) → purge (world g s st) a b ≡ refused 20 []
@@ -208,6 +227,7 @@ module _ (g s : List ℕ) (st : State) (a b : ℕ) where
   unfolding purge
   purge-second e h = rw (eq-eqb a 89 e, ne-eqb b 33 h)
 
-  pub purge-done : (s' : List ℕ) → a ≡ 89 → b ≡ 33 → s' ≡ purged s → purge (world g s st) a b ≡ quietly (putText (world g s' st) (startText (st .config .height)))
+  pub purge-done : (s' : List ℕ) → a ≡ 89 → b ≡ 33 → s' ≡ purged s
+      → purge (world g s st) a b ≡ quietly (putText (world g s' (state (st .config) (st .port) (withUsed (st .panel) 0))) (startText (st .config .height)))
   unfolding purge
   purge-done s' e f d = rw (eq-eqb a 89 e, eq-eqb b 33 f, d)

@@ -6,6 +6,7 @@ use directory::MAX_NUMBER;
 use directory::MAX_RECORDS;
 use directory::NEWER_BITMAP;
 use directory::NEWER_FONT;
+use directory::Totals;
 use directory::find;
 use directory::record_length;
 use directory::tally;
@@ -22,6 +23,8 @@ use outcome::refuse;
 use outcome::refused;
 use outcome::sending;
 use outcome::two_bytes;
+use panel::set_used;
+use panel::used_in;
 use refusals::NO_SPACE;
 use refusals::NO_SUCH_FILE;
 use refusals::NUMBER_IN_USE;
@@ -35,8 +38,13 @@ use state::Port;
 use state::start_text;
 ghost use mathlib.Core.Path.{_≡_};
 ghost use mathlib.Core.Bool.{_||_};
+ghost use Prim.Native.Nat.{_+_, _-_, _%_};
 ghost use lib.Dec.{ltb};
 ghost use Rattle.directory.specs.Directory.{entries, hasFile};
+ghost use Rattle.files.specs.Files.{unusedOf, entry, appended, deleted};
+ghost use Rattle.state.specs.State.{withUsed};
+ghost use Rattle.record.specs.Reading.{panelOf};
+ghost use Rattle.panel.specs.Revised.{revised};
 ghost use Rattle.rules.specs.Files.{inUse, kindOf, lacksSpace, beginUpload, uploadData, uploadWaits, deleteFile, purge};
 ghost use Rattle.rules.specs.Sound.{highest};
 ghost use Rattle.outcome.specs.Contract.{unlent, lent, untold, told, told-edition, Obeys};
@@ -111,17 +119,17 @@ fn kind_of(edition: u8, sort: u8) -> u8
     }
 }
 
-fn lacks_space(store: &[u8], kind: u8, size: u32) -> bool
-    ensures { λ r. ⌜ r ≡ lacksSpace (now (store .entry)) kind size ⌝ }
+// With records up to byte `end`, and so many bytes unused.
+fn lacks_space(end: usize, unused: usize, kind: u8, size: u32) -> bool
+    ensures { λ r. ⌜ r ≡ lacksSpace end unused kind size ⌝ }
 {
     if size == 0 {
         return true;
     }
-    let t = tally(store);
-    if MAX_RECORDS < t.end + record_length(kind) {
+    if MAX_RECORDS - record_length(kind) < end {
         return true;
     }
-    if unused(store) < size as usize {
+    if unused < size as usize {
         return true;
     }
     TOO_LARGE <= size
@@ -138,9 +146,16 @@ fn highest(edition: u8) -> u16
     }
 }
 
-// Whether an upload under way would now be refused.
-pub fn is_turned_away(store: &[u8], edition: u8, sort: u8, number: u16, size: u16) -> bool
-    ensures { λ r. ⌜ r ≡ (ltb (highest edition) number || inUse (now (store .entry)) sort number || lacksSpace (now (store .entry)) (kindOf edition sort) size) ⌝ }
+// Whether an upload under way would now be refused, by these totals of the directory.
+pub fn is_turned_away(
+    store: &[u8],
+    totals: Totals,
+    edition: u8,
+    sort: u8,
+    number: u16,
+    size: u16,
+) -> bool
+    ensures { λ r. ⌜ r ≡ (ltb (highest edition) number || inUse (now (store .entry)) sort number || lacksSpace (totals .end) (unusedOf (now (store .entry)) (totals .used)) (kindOf edition sort) size) ⌝ }
 {
     if highest(edition) < number {
         return true;
@@ -148,7 +163,8 @@ pub fn is_turned_away(store: &[u8], edition: u8, sort: u8, number: u16, size: u1
     if is_in_use(store, sort, number) {
         return true;
     }
-    lacks_space(store, kind_of(edition, sort), size as u32)
+    let free = unused(store, totals.used);
+    lacks_space(totals.end, free, kind_of(edition, sort), size as u32)
 }
 
 // A refusal that is answered.
@@ -160,13 +176,14 @@ fn telling(port: Port, number: u8) -> Outcome
 
 pub fn begin_upload(
     store: &[u8],
+    panel: &[u8],
     port: Port,
     edition: u8,
     sort: u8,
     number: u16,
     size: u32,
 ) -> Outcome
-    ensures { λ r. ⌜ Obeys (told-edition edition) (λ w. beginUpload w sort number size) port unlent (lent (now (store .entry)) (now (store .entry))) unlent r ⌝ }
+    ensures { λ r. ⌜ Obeys (told-edition edition) (λ w. beginUpload w sort number size) port unlent (lent (now (store .entry)) (now (store .entry))) (lent (now (panel .entry)) (now (panel .entry))) r ⌝ }
 {
     if number > MAX_NUMBER {
         return telling(port, NUMBER_OUT_OF_RANGE);
@@ -174,7 +191,9 @@ pub fn begin_upload(
     if is_in_use(store, sort, number) {
         return telling(port, NUMBER_IN_USE);
     }
-    if lacks_space(store, kind_of(edition, sort), size) {
+    let end = tally(store).end;
+    let free = unused(store, used_in(panel) as usize);
+    if lacks_space(end, free, kind_of(edition, sort), size) {
         return telling(port, NO_SPACE);
     }
     let next = in_phase(
@@ -192,9 +211,18 @@ pub fn begin_upload(
     sending(next, one_byte(WELCOME))
 }
 
-// A data byte is echoed and waits; confirmed, it is stored at the next free byte, and at the last one the record is written.
+// The record of a whole file, whose size is now used too.
+fn close_upload(store: &mut [u8], panel: &mut [u8], used: u16, kind: u8, number: u16, size: u16)
+    ensures { λ _. ⌜ (now (store .exit) ≡ appended (now (store .entry)) (entry kind number size)) × (now (panel .exit) ≡ revised (now (panel .entry)) (withUsed (panelOf (now (panel .entry))) ((used + size) % 65536))) ⌝ }
+{
+    append(store, kind, number, size as u32);
+    set_used(panel, std::num::wrapping_add_u16(used, size));
+}
+
+// A data byte is echoed and waits; confirmed, it is stored at the next free byte, and at the last one the record is written and the file's size is used.
 pub fn upload_data(
     store: &mut [u8],
+    panel: &mut [u8],
     port: Port,
     edition: u8,
     sort: u8,
@@ -205,7 +233,7 @@ pub fn upload_data(
     held: u8,
     byte: u8,
 ) -> Outcome
-    ensures { λ r. ⌜ Obeys (told-edition edition) (λ w. uploadData w sort number size stored waiting held byte) port unlent (lent (now (store .entry)) (now (store .exit))) unlent r ⌝ }
+    ensures { λ r. ⌜ Obeys (told-edition edition) (λ w. uploadData w sort number size stored waiting held byte) port unlent (lent (now (store .entry)) (now (store .exit))) (lent (now (panel .entry)) (now (panel .exit))) r ⌝ }
 {
     if !waiting {
         let next = in_phase(
@@ -225,7 +253,8 @@ pub fn upload_data(
     if byte != CONFIRM {
         return refused(port, UPLOAD_ABORTED);
     }
-    store_byte(store, stored, held);
+    let used = used_in(panel);
+    store_byte(store, used, stored, held);
     if stored as u32 + 1 < size as u32 {
         let next = in_phase(
             port,
@@ -241,7 +270,7 @@ pub fn upload_data(
         );
         return done(next);
     }
-    append(store, kind_of(edition, sort), number, size as u32);
+    close_upload(store, panel, used, kind_of(edition, sort), number, size);
     done(in_phase(port, Phase::Idle))
 }
 
@@ -277,9 +306,34 @@ pub fn upload_waits(
     ))
 }
 
-// A deleted font that was the current one leaves font 1.
-pub fn delete_file(store: &mut [u8], port: Port, of_type: u8, number: u16) -> Outcome
-    ensures { λ r. ⌜ Obeys untold (λ w. deleteFile w «of_type» number) port unlent (lent (now (store .entry)) (now (store .exit))) unlent r ⌝ }
+// What is used without a file of so many bytes.
+fn without(used: u16, size: usize) -> u16
+    ensures { λ r. ⌜ r ≡ used - size ⌝ }
+{
+    if size < used as usize {
+        used - size as u16
+    } else {
+        0
+    }
+}
+
+// A file of so many bytes taken out, whose room is free again.
+fn take_out(store: &mut [u8], panel: &mut [u8], sort: u8, number: u16, size: usize)
+    ensures { λ _. ⌜ (now (store .exit) ≡ deleted (now (store .entry)) sort number) × (now (panel .exit) ≡ revised (now (panel .entry)) (withUsed (panelOf (now (panel .entry))) (panelOf (now (panel .entry)) .used - size))) ⌝ }
+{
+    delete(store, sort, number);
+    set_used(panel, without(used_in(panel), size));
+}
+
+// The room of the file is free; a deleted font that was the current one leaves font 1.
+pub fn delete_file(
+    store: &mut [u8],
+    panel: &mut [u8],
+    port: Port,
+    of_type: u8,
+    number: u16,
+) -> Outcome
+    ensures { λ r. ⌜ Obeys untold (λ w. deleteFile w «of_type» number) port unlent (lent (now (store .entry)) (now (store .exit))) (lent (now (panel .entry)) (now (panel .exit))) r ⌝ }
 {
     if of_type >= TYPES {
         return refused(port, UNKNOWN_TYPE);
@@ -288,10 +342,16 @@ pub fn delete_file(store: &mut [u8], port: Port, of_type: u8, number: u16) -> Ou
         return refused(port, NUMBER_OUT_OF_RANGE);
     }
     let sort = of_type + 1;
-    if !is_stored(store, sort, number) {
+    let found = find(store, sort, number);
+    let Found::At {
+        record: _,
+        start: _,
+        size,
+    } = found
+    else {
         return refused(port, NO_SUCH_FILE);
-    }
-    delete(store, sort, number);
+    };
+    take_out(store, panel, sort, number, size);
     if sort != FONT {
         return done(port);
     }
@@ -303,9 +363,16 @@ pub fn delete_file(store: &mut [u8], port: Port, of_type: u8, number: u16) -> Ou
     done(put_text(port, text))
 }
 
-// Text settings go back to the start, and the text point home.
-pub fn purge(store: &mut [u8], port: Port, height: u8, first: u8, second: u8) -> Outcome
-    ensures { λ r. ⌜ Obeys (told height) (λ w. purge w first second) port unlent (lent (now (store .entry)) (now (store .exit))) unlent r ⌝ }
+// Nothing is used, text settings go back to the start, and the text point home.
+pub fn purge(
+    store: &mut [u8],
+    panel: &mut [u8],
+    port: Port,
+    height: u8,
+    first: u8,
+    second: u8,
+) -> Outcome
+    ensures { λ r. ⌜ Obeys (told height) (λ w. purge w first second) port unlent (lent (now (store .entry)) (now (store .exit))) (lent (now (panel .entry)) (now (panel .exit))) r ⌝ }
 {
     if first != PURGE_FIRST {
         return refused(port, UNKNOWN_TYPE);
@@ -314,5 +381,6 @@ pub fn purge(store: &mut [u8], port: Port, height: u8, first: u8, second: u8) ->
         return refused(port, UNKNOWN_TYPE);
     }
     files::purge(store);
+    set_used(panel, 0);
     done(put_text(port, start_text(height)))
 }

@@ -8,7 +8,7 @@ use directory::OLDER_BITMAP;
 use directory::OLDER_FONT;
 use directory::byte_at;
 use directory::find;
-use directory::is_valid;
+use directory::survey;
 use directory::tally;
 use files::append;
 use files::delete;
@@ -62,7 +62,8 @@ fn show_bytes(name: &[u8], s: &[u8], from: usize, to: usize) {
 // The directory.
 fn show_valid(name: &[u8], s: &[u8]) {
     say(name);
-    if is_valid(s) {
+    let surveyed = survey(s);
+    if surveyed.valid {
         say(b": valid\n");
     } else {
         say(b": invalid\n");
@@ -79,6 +80,18 @@ fn show_tally(name: &[u8], s: &[u8]) {
     say(b"\n");
 }
 
+// The room that the files leave.
+fn room(s: &[u8]) -> usize {
+    let t = tally(s);
+    unused(s, t.used)
+}
+
+// Byte number k behind the last file.
+fn put_behind(s: &mut [u8], k: u16, byte: u8) {
+    let t = tally(s);
+    store_byte(s, (t.used % 65536) as u16, k, byte);
+}
+
 fn lengths() {
     let s = [0u8; STORE];
     show_valid(b"1024 zeros", &s);
@@ -88,8 +101,8 @@ fn lengths() {
     show_valid(b"255 zeros", &s[..short]);
     let none = 0;
     show_valid(b"no bytes", &s[..none]);
-    line(b"unused of 1024 zeros: ", unused(&s));
-    line(b"unused of 255 zeros: ", unused(&s[..short]));
+    line(b"unused of 1024 zeros: ", room(&s));
+    line(b"unused of 255 zeros: ", room(&s[..short]));
 }
 
 fn ends() {
@@ -181,10 +194,10 @@ fn sizes() {
     append(&mut t, OLDER_BITMAP, 5, 400);
     append(&mut t, OLDER_BITMAP, 6, 368);
     show_valid(b"400 and 368 bytes of 768", &t);
-    line(b"unused: ", unused(&t));
+    line(b"unused: ", room(&t));
     append(&mut t, OLDER_BITMAP, 7, 1);
     show_valid(b"and one more", &t);
-    line(b"unused: ", unused(&t));
+    line(b"unused: ", room(&t));
     let mut u = [0u8; STORE];
     append(&mut u, OLDER_BITMAP, 5, 0);
     show_valid(b"size 0", &u);
@@ -207,7 +220,7 @@ fn newer_sizes() {
     show_bytes(b"bitmap 5 of 70000 bytes:", &s, 0, 8);
     show_tally(b"bitmap 5 of 70000 bytes", &s);
     show_valid(b"bitmap 5 of 70000 bytes", &s);
-    line(b"unused: ", unused(&s));
+    line(b"unused: ", room(&s));
 }
 
 fn show_found(name: &[u8], s: &[u8], sort: u8, number: u16) {
@@ -264,35 +277,35 @@ fn editions() {
 fn show_store(s: &[u8]) {
     show_bytes(b"directory:", s, 0, 16);
     show_bytes(b"area:", s, 256, 268);
-    line(b"unused: ", unused(s));
+    line(b"unused: ", room(s));
 }
 
 // Each byte goes behind the last file, and the record comes after them.
 fn put_bitmap_1(s: &mut [u8]) {
-    store_byte(s, 0, 11);
-    store_byte(s, 1, 12);
+    put_behind(s, 0, 11);
+    put_behind(s, 1, 12);
     append(s, OLDER_BITMAP, 1, 2);
 }
 
 fn put_font_2(s: &mut [u8]) {
-    store_byte(s, 0, 21);
-    store_byte(s, 1, 22);
-    store_byte(s, 2, 23);
+    put_behind(s, 0, 21);
+    put_behind(s, 1, 22);
+    put_behind(s, 2, 23);
     append(s, OLDER_FONT, 2, 3);
 }
 
 fn put_bitmap_3(s: &mut [u8]) {
-    store_byte(s, 0, 31);
-    store_byte(s, 1, 32);
-    store_byte(s, 2, 33);
-    store_byte(s, 3, 34);
+    put_behind(s, 0, 31);
+    put_behind(s, 1, 32);
+    put_behind(s, 2, 33);
+    put_behind(s, 3, 34);
     append(s, OLDER_BITMAP, 3, 4);
 }
 
 fn put_font_300(s: &mut [u8]) {
-    store_byte(s, 0, 41);
-    store_byte(s, 1, 42);
-    store_byte(s, 2, 43);
+    put_behind(s, 0, 41);
+    put_behind(s, 1, 42);
+    put_behind(s, 2, 43);
     append(s, NEWER_FONT, 300, 3);
 }
 
@@ -318,11 +331,11 @@ fn deletes() {
     show_delete(&mut s, FONT, 2);
     show_store(&s);
     say(b"byte 99 behind them\n");
-    store_byte(&mut s, 0, 99);
+    put_behind(&mut s, 0, 99);
     show_store(&s);
     say(b"byte 98 at 761, byte 97 at 762\n");
-    store_byte(&mut s, 761, 98);
-    store_byte(&mut s, 762, 97);
+    put_behind(&mut s, 761, 98);
+    put_behind(&mut s, 762, 97);
     show_bytes(b"bytes 1022 and 1023:", &s, 1022, 1024);
     say(b"purged\n");
     purge(&mut s);

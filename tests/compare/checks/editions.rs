@@ -206,6 +206,7 @@ fn records_at_their_limit() {
             for edition in EDITIONS {
                 let mut memory = Memory::of(&Board::fresh(pair.font(), LOW, edition, vec![0; 1024]));
                 memory.store = store.clone();
+                memory.recount();
                 let mut piece = upload_begun(edition, 94, 9, 1);
                 piece.extend([7, 1]);
                 let first = records[0];
@@ -236,6 +237,7 @@ fn directories_of_two_records() {
                     let records = [Record { kind: one, number, size }, Record { kind: other, number: second, size: 1 }];
                     let mut bad = memory.clone();
                     put_records(&mut bad.store, &records);
+                    bad.recount();
                     let result = pair.call(&mut bad.clone(), Call::Feed { piece: &[65], room: 2 });
                     expect(&mut pair, &format!("{records:?}"), result.map(drop));
                     let result = pair.call(&mut bad, Call::Start(Choice::of(LOW, NEWER)));

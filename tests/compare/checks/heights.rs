@@ -167,8 +167,8 @@ fn record_lengths_at_start() {
     let mut pair = Pair::default();
     let mut rng = Prng::new(35);
     let memory = random::memory_of(&mut rng, TALL);
-    // the lengths that a record had before it knew of heights, and of editions, among them
-    for state in lengths(STATE_BYTES).into_iter().chain([201, 202]) {
+    // the lengths that a record had before it knew of heights, of editions, and of the used room, among them
+    for state in lengths(STATE_BYTES).into_iter().chain([201, 202, 207]) {
         for queue in lengths(QUEUE_BYTES) {
             for (height, glass) in [(64, 1920), (64, 3840), (128, 3840), (128, 1920), (0, 0), (384, 3840), (64, 1919)] {
                 let mut bad = memory.clone();

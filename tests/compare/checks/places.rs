@@ -63,7 +63,7 @@ fn both_of_the_queue(pair: &mut Pair, memory: &Memory) -> Run {
     Ok(())
 }
 
-/// Each of the 207 places with each value, in every phase of each height and edition.
+/// Each of the 209 places with each value, in every phase of each height and edition.
 #[test]
 fn every_place_of_the_state_record() {
     let mut pair = Pair::default();
@@ -120,7 +120,7 @@ fn every_place_for_arriving_and_taking() {
     pair.counts.met("take", 3, 10_000);
 }
 
-/// Each byte of the directory with each value, with files in it and without.
+/// Each byte of the directory with each value, with files in it and without; where it is still good, also with its sum.
 #[test]
 fn every_place_of_the_directory() {
     let mut pair = Pair::default();
@@ -137,10 +137,22 @@ fn every_place_of_the_directory() {
                     _ => pair.call(&mut bad.clone(), Call::Feed { piece: &[65][..place % 2], room: 2 }),
                 };
                 expect(&mut pair, &format!("memory {number}, place {place}, value {value}"), result.map(drop));
+                let mut counted = bad.clone();
+                counted.recount();
+                if counted.state != bad.state {
+                    let result = pair.call(&mut counted, Call::Feed { piece: &[65][..place % 2], room: 2 });
+                    expect(
+                        &mut pair,
+                        &format!("memory {number}, place {place}, value {value}, counted"),
+                        result.map(drop),
+                    );
+                }
             }
             bad.store[place] = memory.store[place];
         }
     }
+    pair.counts.met("feed", 0, 1_000);
+    pair.counts.met("feed", 3, 1_000);
     pair.counts.met("feed", 4, 10_000);
     pair.counts.met("start", 4, 1_000);
     pair.counts.met("time", 4, 1_000);
@@ -196,6 +208,7 @@ fn stores_at_their_limits() {
             memory.store = random::bytes(&mut rng, length);
             let kind = [Kind::Bitmap, Kind::NewerBitmap][number / 5 % 2];
             put_records(&mut memory.store, &[Record { kind, number: 9, size: first as u32 }]);
+            memory.recount();
             let rest = area.saturating_sub(first).max(1);
             let edition = memory.state[EDITION];
             let mut piece = upload_begun(edition, 94, 10, rest);
@@ -220,6 +233,9 @@ fn uploads_that_would_be_refused_now() {
         damage::upload(&mut rng, &mut memory);
         if rng.percent(50) {
             damage_directory::directory(&mut rng, &mut memory.store);
+        }
+        if rng.percent(80) {
+            memory.recount();
         }
         let call = match number % 3 {
             0 => Call::Time { milliseconds: [0, 1, 2099, 2100][number / 3 % 4], room: 2 },

@@ -35,13 +35,36 @@ fn with_choice(height: u8, edition: u8, changes: &[(usize, u8)]) -> bool {
 #[test]
 fn start_record_byte_by_byte() {
     for (height, edition) in HEIGHTS.into_iter().flat_map(|height| EDITIONS.map(|edition| (height, edition))) {
-        let mut expected = [0; 207];
+        let mut expected = [0; 209];
         let text = [(26, 1), (34, 1), (35, height), (36, 1), (37, 1)];
         let others = [(38, 1), (47, height), (48, edition), (204, 128), (205, 1)];
         for (place, value) in text.into_iter().chain(others) {
             expected[place] = value;
         }
         assert_eq!(encode_state(&State::at_start(height, edition)), expected);
+    }
+}
+
+/// Low byte first: 309 of three files are 53 and 1, and a full store's 768 and 32,512 are 0 3 and 0 127.
+#[test]
+fn used_room_in_its_place() {
+    let stores: [(usize, &[u8], [u8; 2]); 4] = [
+        (1024, &[], [0, 0]),
+        (1024, &[1, 5, 2, 0, 4, 5, 1, 44, 1, 0, 0, 1, 7, 7, 0], [53, 1]),
+        (1024, &[2, 3, 0, 3], [0, 3]),
+        (32768, &[4, 3, 0, 0, 127, 0, 0], [0, 127]),
+    ];
+    for (bytes, directory, sum) in stores {
+        let mut store = vec![0; bytes];
+        store[..directory.len()].copy_from_slice(directory);
+        let state = Board::fresh(&built_in_font(), LOW, OLDER, store).state;
+        assert_eq!(encode_state(&state)[207..], sum);
+    }
+    for sum in 0..=65535u16 {
+        let [low, high] = sum.to_le_bytes();
+        let mut record = start();
+        (record[207], record[208]) = (low, high);
+        assert_eq!(decode_state(&record).map(|state| state.used), Some(sum), "any sum is sound by itself");
     }
 }
 
@@ -86,7 +109,9 @@ fn lent_to_a_feed() {
     assert!(matches!(lent(&record, decode_state(&record).as_mut()), Lent::Meaningless { height: TALL }));
     record[47] = 9;
     assert!(matches!(lent(&record, decode_state(&record).as_mut()), Lent::Meaningless { height: 9 }));
-    assert!(matches!(lent(&record[..206], decode_state(&record[..206]).as_mut()), Lent::WrongLength));
+    for length in [206, 207, 208] {
+        assert!(matches!(lent(&record[..length], decode_state(&record[..length]).as_mut()), Lent::WrongLength));
+    }
     (record[47], record[36]) = (TALL, 1);
     assert!(matches!(lent(&record, decode_state(&record).as_mut()), Lent::State(State { height: TALL, .. })));
     // an unknown edition is no more than a fault of the rest
@@ -118,6 +143,7 @@ fn every_field_in_its_place() {
     state.strips[7] = Some(Strip { x1: 37, y1: 38, x2: 39, y2: 40 });
     state.serial = Some((41, 42));
     (state.contrast, state.backlight, state.minutes) = (43, false, 44);
+    state.used = 256 * 45 + 46;
     let record = encode_state(&state);
     assert_eq!(record[..26], [0; 26]);
     assert_eq!(record[26..38], [10, 9, 11, 1, 12, 13, 14, 15, 16, 17, 0, 1]);
@@ -129,7 +155,7 @@ fn every_field_in_its_place() {
     assert_eq!(record[161..166], [1, 33, 34, 35, 36]);
     assert_eq!(record[166..196], [0; 30]);
     assert_eq!(record[196..201], [1, 37, 38, 39, 40]);
-    assert_eq!(record[201..], [1, 41, 42, 43, 0, 44]);
+    assert_eq!(record[201..], [1, 41, 42, 43, 0, 44, 46, 45]);
     assert_eq!(decode_state(&record), Some(state));
 }
 
@@ -277,7 +303,7 @@ fn bars_strips_and_serial() {
 
 #[test]
 fn lengths() {
-    for length in [0, 1, 201, 202, 205, 206, 208, 414] {
+    for length in [0, 1, 201, 202, 206, 207, 208, 210, 414, 418] {
         let mut record = start().to_vec();
         record.resize(length, 0);
         assert_eq!(decode_state(&record), None);

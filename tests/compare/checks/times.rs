@@ -4,7 +4,7 @@ use compare::compare::{Call, Pair};
 use compare::lists::{milliseconds, run, Cuts, Plan, Rooms, Run};
 use compare::memory::Memory;
 use compare::random;
-use compare::record::{EDITION, FLOW, HEIGHT, PHASE, STATE_BYTES, WAITED};
+use compare::record::{EDITION, FLOW, HEIGHT, PHASE, STATE_BYTES, USED, WAITED};
 use compare::report::expect;
 use compare::streams;
 use reference::board::Board;
@@ -138,7 +138,7 @@ fn order_of_the_answers() {
     let mut pair = Pair::default();
     let mut rng = Prng::new(56);
     for (height, edition) in HEIGHTS.into_iter().flat_map(|height| EDITIONS.map(|edition| (height, edition))) {
-        for faults in 0..1 << 7 {
+        for faults in 0..1 << 8 {
             let mut bad = random::memory_with(&mut rng, height, edition);
             let has = |fault: usize| faults >> fault & 1 == 1;
             spoil(&mut bad, &has);
@@ -175,6 +175,9 @@ fn spoil(bad: &mut Memory, has: &dyn Fn(usize) -> bool) {
     }
     if has(6) {
         bad.store[DIRECTORY - 1] = 1;
+    }
+    if has(7) && !has(0) {
+        bad.state[USED] ^= 1;
     }
 }
 

@@ -4,7 +4,7 @@ use crate::damage_directory::directory;
 use crate::memory::Memory;
 use crate::random::{any_number, bytes};
 use crate::record::{BARS, EDITION, FLOW, GOT, HEIGHT, INLINE, PHASE, QUEUE_BYTES, SERIAL, STATE_BYTES, STRIPS};
-use crate::record::{TEXT, UPLOAD, WAITED};
+use crate::record::{TEXT, UPLOAD, USED, WAITED};
 use reference::directory::DIRECTORY;
 use reference::edition::{NEWER, OLDER};
 use reference::files::Files;
@@ -31,15 +31,22 @@ pub const STORE_LENGTHS: [usize; 18] =
 /// Damages one to three things.
 pub fn any(rng: &mut Prng, memory: &mut Memory) {
     for _ in 0..rng.pick(&[1, 1, 1, 2, 3]) {
-        match rng.below(14) {
+        match rng.below(16) {
             0..=2 => state(rng, &mut memory.state),
             9 => height(rng, &mut memory.state),
             10 => other_glass(rng, memory),
             11 => edition(rng, &mut memory.state),
             12 => waited(rng, &mut memory.state),
             3 => queue(rng, &mut memory.queue),
-            4 | 5 => directory(rng, &mut memory.store),
+            4 | 5 => {
+                directory(rng, &mut memory.store);
+                if rng.percent(70) {
+                    // else every directory that is still a good one would be 3
+                    memory.recount();
+                }
+            }
             6 | 13 => length(rng, memory),
+            14 | 15 => used(rng, memory),
             7 => upload(rng, memory),
             _ => aimed(rng, &mut memory.state),
         }
@@ -121,6 +128,23 @@ pub fn waited(rng: &mut Prng, state: &mut [u8]) {
     let [low, high] = sum.to_le_bytes();
     put(state, WAITED, low);
     put(state, WAITED + 1, high);
+}
+
+/// A kept sum that is not the directory's: off by little, in one byte or in both, or by the bytes of an upload.
+pub fn used(rng: &mut Prng, memory: &mut Memory) {
+    if memory.state.len() != STATE_BYTES {
+        return;
+    }
+    let word = |place: usize| u16::from_le_bytes([memory.state[place], memory.state[place + 1]]);
+    let (sum, size, stored) = (word(USED), word(UPLOAD + 3), word(UPLOAD + 5));
+    let other = rng.between(1, 255) as u16;
+    #[rustfmt::skip]
+    let sums = [
+        sum.wrapping_sub(1), sum.wrapping_add(1), sum ^ other, sum ^ other << 8, sum.swap_bytes(),
+        sum.wrapping_add(size), sum.wrapping_sub(size), sum.wrapping_add(stored), 0, 768, 32512, 32513, 65535,
+        rng.next() as u16,
+    ];
+    memory.state[USED..].copy_from_slice(&rng.pick(&sums).to_le_bytes());
 }
 
 /// The record as it is, lent with the glass of the other height.

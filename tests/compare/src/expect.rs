@@ -5,7 +5,7 @@
 use crate::library::Returned;
 use crate::memory::Memory;
 use crate::record::{decode_queue, decode_state, encode_queue, encode_state, lent};
-use crate::record::{EDITION, HEIGHT, QUEUE_BYTES, STATE_BYTES};
+use crate::record::{EDITION, HEIGHT, QUEUE_BYTES, STATE_BYTES, USED};
 use reference::builtin::built_in_font;
 use reference::feed;
 use reference::glass::Glass;
@@ -47,8 +47,10 @@ impl Expect {
     /// A start looks at the records' lengths only, and keeps the ring's bytes.
     pub fn start(&mut self, memory: &mut Memory, given: Choice) -> Returned {
         let mut glass = self.dots(&memory.glass);
-        let mut state =
-            (memory.state.len() == STATE_BYTES).then(|| State::at_start(memory.state[HEIGHT], memory.state[EDITION]));
+        let mut state = (memory.state.len() == STATE_BYTES).then(|| State {
+            used: u16::from_le_bytes([memory.state[USED], memory.state[USED + 1]]),
+            ..State::at_start(memory.state[HEIGHT], memory.state[EDITION])
+        });
         let mut queue = (memory.queue.len() == QUEUE_BYTES)
             .then(|| Queue { ring: memory.queue[..RING].to_vec(), ..Queue::at_start() });
         let answer = start::start(given, &mut glass, &memory.store, state.as_mut(), queue.as_mut());

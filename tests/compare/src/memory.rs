@@ -1,7 +1,8 @@
 //! What is lent to the calls, as raw bytes of any length and content.
 
-use crate::record::{encode_queue, encode_state};
+use crate::record::{encode_queue, encode_state, STATE_BYTES, USED};
 use reference::board::Board;
+use reference::files::{Files, STORE_LEAST};
 
 #[derive(Clone, Debug, Default, PartialEq, Eq)]
 pub struct Memory {
@@ -18,6 +19,16 @@ impl Memory {
             store: board.store.clone(),
             state: encode_state(&board.state).to_vec(),
             queue: encode_queue(&board.queue).to_vec(),
+        }
+    }
+
+    /// Makes the kept sum that of the directory as it is now, where record and directory allow it.
+    pub fn recount(&mut self) {
+        if self.state.len() != STATE_BYTES || self.store.len() < STORE_LEAST {
+            return;
+        }
+        if let Some(files) = Files::read(&self.store) {
+            self.state[USED..].copy_from_slice(&(files.used() as u16).to_le_bytes());
         }
     }
 

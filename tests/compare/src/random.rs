@@ -159,6 +159,7 @@ fn strip(rng: &mut Prng, height: u8) -> Strip {
 pub fn state(rng: &mut Prng, height: u8, edition: u8, store: &[u8]) -> State {
     let files = Files::read(store).expect("a good directory");
     let mut state = State::at_start(height, edition);
+    state.used = files.used() as u16;
     let text = &mut state.text;
     let known = files.list.get(rng.below(files.list.len() + 1)).map_or(1, |file| file.number);
     text.font = match rng.below(10) {

@@ -3,7 +3,7 @@
 use reference::queue::{Queue, RING};
 use reference::state::{Bar, Gathering, Inline, Lent, Sort, State, Strip, Text, Upload};
 
-pub const STATE_BYTES: usize = 207;
+pub const STATE_BYTES: usize = 209;
 pub const QUEUE_BYTES: usize = 85;
 
 pub const PHASE: usize = 0;
@@ -26,6 +26,8 @@ pub const SERIAL: usize = 201;
 pub const CONTRAST: usize = 204;
 pub const BACKLIGHT: usize = 205;
 pub const MINUTES: usize = 206;
+/// The sum of the files' sizes, low byte first.
+pub const USED: usize = 207;
 
 pub const PLACE: usize = 80;
 pub const HELD: usize = 81;
@@ -82,6 +84,7 @@ pub fn encode_state(state: &State) -> [u8; STATE_BYTES] {
     r[CONTRAST] = state.contrast;
     r[BACKLIGHT] = state.backlight as u8;
     r[MINUTES] = state.minutes;
+    r[USED..].copy_from_slice(&split(state.used));
     r
 }
 
@@ -135,7 +138,7 @@ pub fn lent<'a>(record: &[u8], state: Option<&'a mut State>) -> Lent<'a> {
     }
 }
 
-/// `None` for a record that is not sound, thresholds included.
+/// `None` for a record that is not sound, thresholds included; any sum of sizes is, without a directory beside it.
 pub fn decode_state(record: &[u8]) -> Option<State> {
     let r: &[u8; STATE_BYTES] = record.try_into().ok()?;
     let mut bars = [None; 16];
@@ -181,6 +184,7 @@ pub fn decode_state(record: &[u8]) -> Option<State> {
         empty: r[FLOW + 2],
         refusals: join(r[REFUSALS], r[REFUSALS + 1]),
         last_refusal: r[REFUSALS + 2],
+        used: join(r[USED], r[USED + 1]),
     };
     (r[PHASE] <= 4 && state.sound() && state.thresholds_fit()).then_some(state)
 }
@@ -308,6 +312,7 @@ pub fn state_place(place: usize) -> String {
         CONTRAST => "contrast".into(),
         BACKLIGHT => "backlight".into(),
         MINUTES => "minutes".into(),
+        USED..STATE_BYTES => field(&["used low", "used high"], USED),
         _ => "beyond the record".into(),
     }
 }

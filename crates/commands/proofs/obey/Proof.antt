@@ -2,8 +2,6 @@ use mathlib.Core.Path.{refl}
 use Rattle.commands.proofs.Commands.{obeys-command, obeys-unknown, choose-as, show-as, upload-as, delete-as}
 use Rattle.rules.specs.Step.{obey}
 use Rattle.state.specs.declared.Command.the-variants.{Unknown, Clear, Home, SetPoint, SetPlace, WrapOn, WrapOff, ScrollOn, ScrollOff, ChooseFont, SetMetrics, SetColour, DrawPixel, DrawLine, ContinueLine, DrawFrame, FillRectangle, SetUpBar, WriteBar, SetUpStrip, ShiftStrip, ShowBitmap, DrawInline, UploadFont, UploadBitmap, DeleteFile, Purge, FlowOn, FlowOff, SetContrast, BacklightOn, BacklightOff, SetSerial}
--- `obey` meets its contract.
--- Assumes nothing.
 use borrow.Author.Needs.{needs}
 use Rattle.commands.proofs.obey.Statement.{statement}
 use Rattle.commands.proofs.obey.Tie as tie
@@ -547,30 +545,42 @@ returns-23 c = obeys-command (c .before .before .before .before .before .before 
 same-length-17 : tie.Need-same-length-17
 same-length-17 c = search needs
 
-returns-24 : tie.Need-returns-24
-unfolding obey
-returns-24 c = obeys-command (c .before .before .before .before .before .before .before .before .before .args .command) UploadFont _ (search needs) (c .begin-upload .ensures) (λ h g s p. refl) (λ h g s q. upload-as (c .before .before .before .before .before .before .before .before .before .args .config .edition) (c .before .before .before .before .before .before .before .before .before .args .t2) _ _ 1 _ (c .before .before .before .first-number3 .ensures) (c .before .before .size-in .ensures))
-
 same-length-18 : tie.Need-same-length-18
 same-length-18 c = search needs
 
-returns-25 : tie.Need-returns-25
+returns-24 : tie.Need-returns-24
 unfolding obey
-returns-25 c = obeys-command (c .before .before .before .before .before .before .before .before .before .args .command) UploadBitmap _ (search needs) (c .begin-upload2 .ensures) (λ h g s p. refl) (λ h g s q. upload-as (c .before .before .before .before .before .before .before .before .before .args .config .edition) (c .before .before .before .before .before .before .before .before .before .args .t2) _ _ 2 _ (c .before .before .before .first-number4 .ensures) (c .before .before .size-in2 .ensures))
+returns-24 c = obeys-command (c .before .before .before .before .before .before .before .before .before .before .args .command) UploadFont _ (search needs) (c .begin-upload .ensures) (λ h g s p. refl) (λ h g s q. upload-as (c .before .before .before .before .before .before .before .before .before .before .args .config .edition) (c .before .before .before .before .before .before .before .before .before .before .args .t2) _ _ 1 _ (c .before .before .before .before .first-number3 .ensures) (c .before .before .before .size-in .ensures))
 
 same-length-19 : tie.Need-same-length-19
 same-length-19 c = search needs
 
-returns-26 : tie.Need-returns-26
-unfolding obey
-returns-26 c = obeys-command (c .before .before .before .before .before .before .before .before .before .before .args .command) DeleteFile _ (search needs) (c .before .before .delete-file .ensures) (λ h g s p. refl) (λ h g s q. delete-as (c .before .before .before .before .before .before .before .before .before .before .args .config .edition) (c .before .before .before .before .before .before .before .before .before .before .args .t2) _ _ _ (c .before .before .before .second-number .ensures))
-
 same-length-20 : tie.Need-same-length-20
 same-length-20 c = search needs
 
+returns-25 : tie.Need-returns-25
+unfolding obey
+returns-25 c = obeys-command (c .before .before .before .before .before .before .before .before .before .before .args .command) UploadBitmap _ (search needs) (c .begin-upload2 .ensures) (λ h g s p. refl) (λ h g s q. upload-as (c .before .before .before .before .before .before .before .before .before .before .args .config .edition) (c .before .before .before .before .before .before .before .before .before .before .args .t2) _ _ 2 _ (c .before .before .before .before .first-number4 .ensures) (c .before .before .before .size-in2 .ensures))
+
+same-length-21 : tie.Need-same-length-21
+same-length-21 c = search needs
+
+same-length-22 : tie.Need-same-length-22
+same-length-22 c = search needs
+
+returns-26 : tie.Need-returns-26
+unfolding obey
+returns-26 c = obeys-command (c .before .before .before .before .before .before .before .before .before .before .before .before .before .args .command) DeleteFile _ (search needs) (c .before .before .before .before .delete-file .ensures) (λ h g s p. refl) (λ h g s q. delete-as (c .before .before .before .before .before .before .before .before .before .before .before .before .before .args .config .edition) (c .before .before .before .before .before .before .before .before .before .before .before .before .before .args .t2) _ _ _ (c .before .before .before .before .before .second-number .ensures))
+
+same-length-23 : tie.Need-same-length-23
+same-length-23 c = search needs
+
+same-length-24 : tie.Need-same-length-24
+same-length-24 c = search needs
+
 returns-27 : tie.Need-returns-27
 unfolding obey
-returns-27 c = obeys-command (c .before .before .before .before .before .before .before .before .before .args .command) Purge _ (search needs) (c .before .before .purge .ensures) (λ h g s p. refl) (λ h g s q. refl)
+returns-27 c = obeys-command (c .before .before .before .before .before .before .before .before .before .before .before .before .args .command) Purge _ (search needs) (c .before .before .before .before .purge .ensures) (λ h g s p. refl) (λ h g s q. refl)
 
 returns-28 : tie.Need-returns-28
 unfolding obey
@@ -580,29 +590,29 @@ returns-29 : tie.Need-returns-29
 unfolding obey
 returns-29 c = obeys-command (c .before .before .before .before .before .before .args .command) FlowOff _ (search needs) (c .flow-off .ensures) (λ h g s p. refl) (λ h g s q. refl)
 
-same-length-21 : tie.Need-same-length-21
-same-length-21 c = search needs
+same-length-25 : tie.Need-same-length-25
+same-length-25 c = search needs
 
 returns-30 : tie.Need-returns-30
 unfolding obey
 returns-30 c = obeys-command (c .before .before .before .before .before .before .before .before .before .args .command) SetContrast _ (search needs) (c .before .before .set-contrast .ensures) (λ h g s p. refl) (λ h g s q. refl)
 
-same-length-22 : tie.Need-same-length-22
-same-length-22 c = search needs
+same-length-26 : tie.Need-same-length-26
+same-length-26 c = search needs
 
 returns-31 : tie.Need-returns-31
 unfolding obey
 returns-31 c = obeys-command (c .before .before .before .before .before .before .before .before .before .args .command) BacklightOn _ (search needs) (c .before .before .backlight-on .ensures) (λ h g s p. refl) (λ h g s q. refl)
 
-same-length-23 : tie.Need-same-length-23
-same-length-23 c = search needs
+same-length-27 : tie.Need-same-length-27
+same-length-27 c = search needs
 
 returns-32 : tie.Need-returns-32
 unfolding obey
 returns-32 c = obeys-command (c .before .before .before .before .before .before .before .before .before .args .command) BacklightOff _ (search needs) (c .before .before .backlight-off .ensures) (λ h g s p. refl) (λ h g s q. refl)
 
-same-length-24 : tie.Need-same-length-24
-same-length-24 c = search needs
+same-length-28 : tie.Need-same-length-28
+same-length-28 c = search needs
 
 returns-33 : tie.Need-returns-33
 unfolding obey
@@ -784,20 +794,24 @@ obey-spec =
     returns-22
     returns-23
     same-length-17
-    returns-24
     same-length-18
-    returns-25
+    returns-24
     same-length-19
-    returns-26
     same-length-20
+    returns-25
+    same-length-21
+    same-length-22
+    returns-26
+    same-length-23
+    same-length-24
     returns-27
     returns-28
     returns-29
-    same-length-21
+    same-length-25
     returns-30
-    same-length-22
+    same-length-26
     returns-31
-    same-length-23
+    same-length-27
     returns-32
-    same-length-24
+    same-length-28
     returns-33)

@@ -4,9 +4,7 @@ use borrow.Author.Tests.{not-false}
 use Rattle.canvas.proofs.Heights.{height-fits}
 use Rattle.state.proofs.Editions.{edition-fits}
 use Rattle.state.specs.State.{config}
-use Rattle.display.proofs.Ways.{start-3, start-3-record, start-3-queue, start-1, start-2, start-3-edition, start-4, start-0}
--- `display_start` meets its contract.
--- Assumes nothing.
+use Rattle.display.proofs.Ways.{start-3, start-3-record, start-3-queue, start-1, start-2, start-3-edition, start-4, start-0, start-used}
 use borrow.Author.Needs.{needs}
 use Rattle.display.proofs.display_start.Statement.{statement}
 use Rattle.display.proofs.display_start.Tie as tie
@@ -50,20 +48,23 @@ same-length-2 c = search needs
 returns-6 : tie.Need-returns-6
 returns-6 c = start-3-edition (config (c .before .before .before .before .before .before .before .before .before .before .before .before .before .before .before .args .height) (c .before .before .before .before .before .before .before .before .before .before .before .before .before .before .before .args .edition)) _ _ _ _ _ (c .before .before .before .before .before .before .before .before .before .before .is-height .ensures) (c .before .before .before .before .before .before .before .before .before .if1 .left) (c .before .before .before .before .before .before .before .before .if2 .left) (c .before .before .before .before .before .before .before .if3 .left) _ (c .before .before .before .before .before .before .length-for .ensures) (c .before .before .before .before .before .if4 .left) _ (c .before .before .before .store-fits .ensures) (c .before .before .if5 .left) _ (c .before .is-edition .ensures) (search needs)
 
-is-valid-requires : tie.Need-is-valid-requires
-is-valid-requires c κs = search needs
+survey-requires : tie.Need-survey-requires
+survey-requires c κs = search needs
 
 same-length-3 : tie.Need-same-length-3
 same-length-3 c = search needs
 
 returns-7 : tie.Need-returns-7
-returns-7 c = start-4 (config (c .before .before .before .before .before .before .before .before .before .before .before .before .before .before .before .before .before .before .args .height) (c .before .before .before .before .before .before .before .before .before .before .before .before .before .before .before .before .before .before .args .edition)) _ _ _ _ _ (c .before .before .before .before .before .before .before .before .before .before .before .before .before .is-height .ensures) (c .before .before .before .before .before .before .before .before .before .before .before .before .if1 .left) (c .before .before .before .before .before .before .before .before .before .before .before .if2 .left) (c .before .before .before .before .before .before .before .before .before .before .if3 .left) _ (c .before .before .before .before .before .before .before .before .before .length-for .ensures) (c .before .before .before .before .before .before .before .before .if4 .left) _ (c .before .before .before .before .before .before .store-fits .ensures) (c .before .before .before .before .before .if5 .left) _ (c .before .before .before .before .is-edition .ensures) (c .before .before .before .if6 .left) _ (c .before .is-valid .ensures) (search needs)
+returns-7 c = start-4 (config (c .before .before .before .before .before .before .before .before .before .before .before .before .before .before .before .before .before .before .before .args .height) (c .before .before .before .before .before .before .before .before .before .before .before .before .before .before .before .before .before .before .before .args .edition)) _ _ _ _ _ (c .before .before .before .before .before .before .before .before .before .before .before .before .before .before .is-height .ensures) (c .before .before .before .before .before .before .before .before .before .before .before .before .before .if1 .left) (c .before .before .before .before .before .before .before .before .before .before .before .before .if2 .left) (c .before .before .before .before .before .before .before .before .before .before .before .if3 .left) _ (c .before .before .before .before .before .before .before .before .before .before .length-for .ensures) (c .before .before .before .before .before .before .before .before .before .if4 .left) _ (c .before .before .before .before .before .before .before .store-fits .ensures) (c .before .before .before .before .before .before .if5 .left) _ (c .before .before .before .before .before .is-edition .ensures) (c .before .before .before .before .if6 .left) _ (c .before .before .survey .ensures) (search needs)
 
 clear-requires : tie.Need-clear-requires
 clear-requires c κs = search needs
 
-cast-t20 : tie.Need-cast-t20
-cast-t20 c = omega (arith, edition-fits _ (sym (c .before .before .before .before .before .before .before .before .is-edition .ensures) ∙ not-false _ (c .before .before .before .before .before .before .before .if6 .left)))
+cast-t23 : tie.Need-cast-t23
+cast-t23 c = omega (arith, edition-fits _ (sym (c .before .before .before .before .before .before .before .before .before .is-edition .ensures) ∙ not-false _ (c .before .before .before .before .before .before .before .before .if6 .left)))
+
+cast-start-state : tie.Need-cast-start-state
+cast-start-state c = omega (arith, start-used _ _ _ (c .before .before .before .before .before .before .before .before .before .before .before .before .before .store-fits .ensures) (c .before .before .before .before .before .before .before .before .before .before .before .before .if5 .left) (c .before .before .before .before .before .before .before .before .survey .ensures) (c .before .before .before .before .before .before .if7 .left))
 
 start-state-requires : tie.Need-start-state-requires
 start-state-requires c κs = search needs
@@ -72,7 +73,7 @@ encode-requires : tie.Need-encode-requires
 encode-requires c κs = search needs
 
 empty-queue-requires : tie.Need-empty-queue-requires
-empty-queue-requires c κs = c .before .before .before .before .before .before .before .before .before .before .before .before .before .before .before .before .before .before .before .before .if3 .left
+empty-queue-requires c κs = c .before .before .before .before .before .before .before .before .before .before .before .before .before .before .before .before .before .before .before .before .before .before .before .if3 .left
 
 same-length-4 : tie.Need-same-length-4
 same-length-4 c = search needs
@@ -87,7 +88,7 @@ same-length-7 : tie.Need-same-length-7
 same-length-7 c = search needs
 
 returns-8 : tie.Need-returns-8
-returns-8 c = start-0 (config (c .before .before .before .before .before .before .before .before .before .before .before .before .before .before .before .before .before .before .before .before .before .before .before .before .before .before .before .before .before .before .before .args .height) (c .before .before .before .before .before .before .before .before .before .before .before .before .before .before .before .before .before .before .before .before .before .before .before .before .before .before .before .before .before .before .before .args .edition)) _ _ _ _ _ (c .before .before .before .before .before .before .before .before .before .before .before .before .before .before .before .before .before .before .before .before .before .before .before .before .before .before .is-height .ensures) (c .before .before .before .before .before .before .before .before .before .before .before .before .before .before .before .before .before .before .before .before .before .before .before .before .before .if1 .left) (c .before .before .before .before .before .before .before .before .before .before .before .before .before .before .before .before .before .before .before .before .before .before .before .before .if2 .left) (c .before .before .before .before .before .before .before .before .before .before .before .before .before .before .before .before .before .before .before .before .before .before .before .if3 .left) _ (c .before .before .before .before .before .before .before .before .before .before .before .before .before .before .before .before .before .before .before .before .before .before .length-for .ensures) (c .before .before .before .before .before .before .before .before .before .before .before .before .before .before .before .before .before .before .before .before .before .if4 .left) _ (c .before .before .before .before .before .before .before .before .before .before .before .before .before .before .before .before .before .before .before .store-fits .ensures) (c .before .before .before .before .before .before .before .before .before .before .before .before .before .before .before .before .before .before .if5 .left) _ (c .before .before .before .before .before .before .before .before .before .before .before .before .before .before .before .before .before .is-edition .ensures) (c .before .before .before .before .before .before .before .before .before .before .before .before .before .before .before .before .if6 .left) _ (c .before .before .before .before .before .before .before .before .before .before .before .before .before .before .is-valid .ensures) _ _ _ _ (c .before .before .before .before .before .before .before .before .before .before .before .before .before .if7 .left) (c .before .before .before .before .before .before .before .before .before .before .before .clear .ensures) (c .before .before .before .before .before .before .before .before .start-state .ensures) (c .before .before .before .before .before .before .encode .ensures) (c .before .before .empty-queue .ensures)
+returns-8 c = start-0 (config (c .before .before .before .before .before .before .before .before .before .before .before .before .before .before .before .before .before .before .before .before .before .before .before .before .before .before .before .before .before .before .before .before .before .before .args .height) (c .before .before .before .before .before .before .before .before .before .before .before .before .before .before .before .before .before .before .before .before .before .before .before .before .before .before .before .before .before .before .before .before .before .before .args .edition)) _ _ _ _ _ (c .before .before .before .before .before .before .before .before .before .before .before .before .before .before .before .before .before .before .before .before .before .before .before .before .before .before .before .before .before .is-height .ensures) (c .before .before .before .before .before .before .before .before .before .before .before .before .before .before .before .before .before .before .before .before .before .before .before .before .before .before .before .before .if1 .left) (c .before .before .before .before .before .before .before .before .before .before .before .before .before .before .before .before .before .before .before .before .before .before .before .before .before .before .before .if2 .left) (c .before .before .before .before .before .before .before .before .before .before .before .before .before .before .before .before .before .before .before .before .before .before .before .before .before .before .if3 .left) _ (c .before .before .before .before .before .before .before .before .before .before .before .before .before .before .before .before .before .before .before .before .before .before .before .before .before .length-for .ensures) (c .before .before .before .before .before .before .before .before .before .before .before .before .before .before .before .before .before .before .before .before .before .before .before .before .if4 .left) _ (c .before .before .before .before .before .before .before .before .before .before .before .before .before .before .before .before .before .before .before .before .before .before .store-fits .ensures) (c .before .before .before .before .before .before .before .before .before .before .before .before .before .before .before .before .before .before .before .before .before .if5 .left) _ (c .before .before .before .before .before .before .before .before .before .before .before .before .before .before .before .before .before .before .before .before .is-edition .ensures) (c .before .before .before .before .before .before .before .before .before .before .before .before .before .before .before .before .before .before .before .if6 .left) _ (c .before .before .before .before .before .before .before .before .before .before .before .before .before .before .before .before .before .survey .ensures) _ _ _ _ (c .before .before .before .before .before .before .before .before .before .before .before .before .before .before .before .if7 .left) (c .before .before .before .before .before .before .before .before .before .before .before .before .before .clear .ensures) (c .before .before .before .before .before .before .before .before .start-state .ensures) (c .before .before .before .before .before .before .encode .ensures) (c .before .before .empty-queue .ensures)
 
 pub display-start-spec : {M : Type 1} → statement M
 display-start-spec =
@@ -106,11 +107,12 @@ display-start-spec =
     is-edition-requires
     same-length-2
     returns-6
-    is-valid-requires
+    survey-requires
     same-length-3
     returns-7
     clear-requires
-    cast-t20
+    cast-t23
+    cast-start-state
     start-state-requires
     encode-requires
     empty-queue-requires

@@ -34,7 +34,7 @@ returns-4 : tie.Need-returns-4
 returns-4 c = search needs
 
 returns-5 : tie.Need-returns-5
-returns-5 c = blocked-is _ _ _ _ _ _ _ _ _ _ _ (c .before .before .phase .given .1) (c .is-turned-away .ensures)
+returns-5 c = blocked-is _ _ _ _ _ _ _ _ _ _ _ _ (c .before .before .before .before .before .pre) (c .before .before .phase .given .1) (c .is-turned-away .ensures)
 
 pub is-blocked-spec : {M : Type 1} → statement M
 is-blocked-spec =

@@ -1,10 +1,7 @@
-use Rattle.files.proofs.Writes.{stored-in, stored-out}
+use Rattle.files.proofs.Writes.{stored-out}
 use borrow.Author.Needs.{needs}
 use Rattle.files.proofs.store_byte.Statement.{statement}
 use Rattle.files.proofs.store_byte.Tie as tie
-
-tally-requires : tie.Need-tally-requires
-tally-requires c κs = search needs
 
 add-at : tie.Need-add-at
 add-at c = search needs
@@ -19,23 +16,11 @@ same-length : tie.Need-same-length
 same-length c = search needs
 
 returns : tie.Need-returns
-returns c = stored-in (c .before .before .before .before .before .args .store .now) (c .before .before .tally .result) (c .before .before .before .before .before .args .k) (c .before .before .before .before .before .args .byte) (c .before .before .tally .ensures .0)
-
-same-length-2 : tie.Need-same-length-2
-same-length-2 c = search needs
+returns c = search needs
 
 returns-2 : tie.Need-returns-2
-returns-2 c = stored-out (c .before .before .before .before .before .args .store .now) (c .before .before .tally .result) (c .before .before .before .before .before .args .k) (c .before .before .before .before .before .args .byte) (c .before .before .tally .ensures .0) (search needs)
+returns-2 c = stored-out (c .before .args .store .now) (c .before .args .used) (c .before .args .k) (c .before .args .byte) (search needs)
 
 pub store-byte-spec : {M : Type 1} → statement M
 store-byte-spec =
-    tie.close
-    (tie.spec
-    tally-requires
-    add-at
-    add-at-2
-    slice-write-store
-    same-length
-    returns
-    same-length-2
-    returns-2)
+    tie.close (tie.spec add-at add-at-2 slice-write-store same-length returns returns-2)

@@ -1,8 +1,6 @@
 use mathlib.Core.Path.{refl}
 use Rattle.interpreter.proofs.Phases.{in-idle, in-prefix, in-gathering, in-inline, in-upload}
 use Rattle.outcome.proofs.Laws.{obeys-as}
--- `step` meets its contract.
--- Assumes nothing.
 use borrow.Author.Needs.{needs}
 use Rattle.interpreter.proofs.step.Statement.{statement}
 use Rattle.interpreter.proofs.step.Tie as tie
@@ -79,8 +77,11 @@ returns-4 c = obeys-as (c .before .before .inline-data .ensures) (λ h g s p. re
 same-length-10 : tie.Need-same-length-10
 same-length-10 c = search needs
 
+same-length-11 : tie.Need-same-length-11
+same-length-11 c = search needs
+
 returns-5 : tie.Need-returns-5
-returns-5 c = obeys-as (c .before .before .upload-data .ensures) (λ h g s p. refl) (λ h g s p. in-upload _ _ _ _ _ _ _ _ _ (c .before .before .before .before .before .phase3 .given .1))
+returns-5 c = obeys-as (c .before .before .before .before .upload-data .ensures) (λ h g s p. refl) (λ h g s p. in-upload _ _ _ _ _ _ _ _ _ (c .before .before .before .before .before .before .before .before .phase3 .given .1))
 
 pub step-spec : {M : Type 1} → statement M
 step-spec =
@@ -110,4 +111,5 @@ step-spec =
     same-length-9
     returns-4
     same-length-10
+    same-length-11
     returns-5)

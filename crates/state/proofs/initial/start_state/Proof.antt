@@ -10,7 +10,7 @@ start-panel-requires : tie.Need-start-panel-requires
 start-panel-requires c κs = search needs
 
 returns : tie.Need-returns
-returns c = state-started _ _ _ (c .before .start-port .ensures) (c .start-panel .ensures)
+returns c = state-started _ _ _ _ (c .before .start-port .ensures) (c .start-panel .ensures)
 
 pub start-state-spec : {M : Type 1} → statement M
 start-state-spec = tie.close (tie.spec start-port-requires start-panel-requires returns)
