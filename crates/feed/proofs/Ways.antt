@@ -14,7 +14,7 @@ use borrow.Author.Tests.{eq-eqb, ne-eqb, le-leb, lt-leb, lt-ltb, le-ltb, not-fal
 use Rattle.canvas.specs.Sizes.{lengthFor}
 use Rattle.directory.specs.declared.Totals.{Totals}
 use Rattle.directory.specs.declared.Surveyed.{Surveyed}
-use Rattle.directory.specs.Directory.{entries, sizesIn, totalsOf, validOf, surveyOf}
+use Rattle.directory.specs.Directory.{entries, sizesIn, totalsOf, surveyOf}
 use Rattle.directory.proofs.Walks.{survey-says, survey-totals}
 use Rattle.files.specs.Files.{unusedOf}
 use Rattle.state.specs.declared.Phase.{Phase}

@@ -3,7 +3,7 @@
 use mathlib.Core.Path.{_≡_, refl, sym, ap, _∙_}
 use mathlib.Core.List.{List, [], _∷_}
 use mathlib.Core.Bool.{Bool, true, false, cond}
-use Prim.Native.Nat.{ℕ, _+_, _-_, _/_, _%_, _≤_, _<_, min}
+use Prim.Native.Nat.{ℕ, _+_, _/_, _%_, _≤_, _<_, min}
 use native.Mathlib.Omega.{arith}
 use native.Mathlib.Numerals.{add-one}
 use lib.ListN.{length, getD, drop, set, replicate, length-drop}
@@ -16,7 +16,7 @@ use Rattle.directory.specs.declared.Found.the-variants.{At, Nothing}
 use Rattle.directory.specs.Directory.{isNewer, lengthOf, stepAt, entryAt, entriesFrom, entries, bytesIn, sizesIn, totalsOf, isFile, findIn, findOf}
 use Rattle.directory.proofs.RecordKinds.{length-other}
 use Rattle.directory.proofs.Laws.{stands, kind-length, entries-ind}
-use Rattle.files.specs.Files.{unusedOf, entry, byteOf, recordBytes, appended, deletes, deleted, purged, storedByte}
+use Rattle.files.specs.Files.{entry, byteOf, recordBytes, appended, deletes, deleted, purged, storedByte}
 use Rattle.files.specs.Moves.{closed}
 use Rattle.files.proofs.Moves.{Pasting, pasting-start, pasting-more, pasting-end}
 

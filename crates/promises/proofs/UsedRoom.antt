@@ -2,7 +2,6 @@
 -- changes it.
 -- Assumes nothing.
 use mathlib.Core.Path.{_≡_, refl}
-use mathlib.Core.Bool.{true}
 use mathlib.Core.List.{List, [], _∷_, _++_}
 use Prim.Native.Nat.{ℕ, zero, suc}
 use lib.ListN.{take, replicate}
@@ -18,7 +17,7 @@ use Rattle.state.specs.State.{config}
 use Rattle.record.specs.Reading.{usedIn}
 use Rattle.rules.specs.World.{World, used}
 use Rattle.rules.specs.Files.{lacksSpace, beginUpload, uploadData, uploadWaits, deleteFile, purge}
-use Rattle.rules.specs.Step.{Input, byte, time, obey, code, argument, alone, byPhase, waits, refuse, after, step}
+use Rattle.rules.specs.Step.{Input, time, obey, code, argument, alone, byPhase, waits, refuse, after, step}
 use Rattle.rules.specs.Calls.{bytes, run}
 use Rattle.calls.specs.Memory.{Memory, checked}
 use Rattle.calls.specs.Start.{Started, startChecked, startOf, startWorld}

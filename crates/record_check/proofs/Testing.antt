@@ -18,7 +18,7 @@ use Rattle.state.specs.declared.Phase.the-variants.{Idle, Prefix, Gathering, In
 use Rattle.state.specs.Soundness.{every, soundGathering, soundInline, soundUpload, soundPhase, soundText, thresholdsFit}
 use Rattle.state.specs.Canonical.{isZero, canonicalUpload, canonicalPhase}
 use Rattle.record.specs.Reading.{flagAt, inlineOf, uploadOf, argumentsIn, textOf, flowOf, portOf, editionIn}
-use Rattle.record.specs.Writing.{low, high, dataBytes, uploadBytes, textBytes, otherBytes}
+use Rattle.record.specs.Writing.{dataBytes, uploadBytes, textBytes, otherBytes}
 use Rattle.record_check.specs.Parts.{stands, clear, phaseStands, phaseHolds, textHolds, otherHolds}
 use Rattle.record_check.proofs.Standing.{stands-next, stands-read, clear-add, zeros-from}
 use Rattle.record.proofs.Back.{low-is, high-is}

@@ -1,3 +1,5 @@
+-- `obey` meets its contract.
+-- Assumes nothing.
 use mathlib.Core.Path.{refl}
 use Rattle.commands.proofs.Commands.{obeys-command, obeys-unknown, choose-as, show-as, upload-as, delete-as}
 use Rattle.rules.specs.Step.{obey}

@@ -1,3 +1,5 @@
+-- `check` meets its contract.
+-- Assumes nothing.
 use borrow.Author.Tests.{not-false}
 use Rattle.directory.proofs.Walks.{survey-totals}
 use Rattle.feed.proofs.Ways.{check-3-first, check-1, check-2, check-3, check-4, check-4-upload, check-3-sum, check-0}

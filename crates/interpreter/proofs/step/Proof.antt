@@ -1,3 +1,5 @@
+-- `step` meets its contract.
+-- Assumes nothing.
 use mathlib.Core.Path.{refl}
 use Rattle.interpreter.proofs.Phases.{in-idle, in-prefix, in-gathering, in-inline, in-upload}
 use Rattle.outcome.proofs.Laws.{obeys-as}

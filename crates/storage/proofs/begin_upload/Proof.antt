@@ -1,3 +1,5 @@
+-- `begin_upload` meets its contract.
+-- Assumes nothing.
 use native.Mathlib.Omega.{arith}
 use mathlib.Core.Path.{refl}
 use Rattle.storage.proofs.Laws.{upload-19, upload-25, upload-24, upload-done, size-fits}

@@ -1,3 +1,5 @@
+-- `delete_file` meets its contract.
+-- Assumes nothing.
 use mathlib.Core.Path.{refl}
 use Rattle.storage.proofs.Laws.{delete-20, delete-19, delete-22, delete-chosen, delete-bitmap, delete-other}
 use Rattle.outcome.proofs.Laws.{obeys-refused, obeys-set, done-with}

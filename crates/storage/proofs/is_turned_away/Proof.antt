@@ -1,3 +1,5 @@
+-- `is_turned_away` meets its contract.
+-- Assumes nothing.
 use Rattle.storage.proofs.Laws.{away-high, away-used, away-room}
 use Rattle.files.specs.Files.{unusedOf}
 use borrow.Author.Needs.{needs}

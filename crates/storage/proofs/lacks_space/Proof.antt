@@ -1,3 +1,5 @@
+-- `lacks_space` meets its contract.
+-- Assumes nothing.
 use Rattle.storage.proofs.Laws.{no-size, no-place, no-bytes, some-bytes}
 use borrow.Author.Needs.{needs}
 use Rattle.storage.proofs.lacks_space.Statement.{statement}

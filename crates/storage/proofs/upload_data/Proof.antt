@@ -1,7 +1,8 @@
-use mathlib.Core.Path.{refl}
+-- `upload_data` meets its contract.
+-- Assumes nothing.
+use mathlib.Core.Path.{refl, _∙_}
 use Rattle.storage.proofs.Laws.{data-echoed, data-26, data-more, data-last}
 use Rattle.outcome.proofs.Laws.{obeys-refused, obeys-one, obeys-done, obeys-set, sending-with, done-with}
-use mathlib.Core.Path.{_∙_}
 use borrow.Author.Needs.{needs}
 use Rattle.storage.proofs.upload_data.Statement.{statement}
 use Rattle.storage.proofs.upload_data.Tie as tie
