@@ -71,7 +71,7 @@ carried b l h a v =
       last = rw (s .board-same, s .consumed-same) (v .last);
       never-28 = rw (s .board-same) (v .never-28);
       config = rw (s .board-same) (v .config);
-      used = rw (s .board-same) (v .used);
+      used = rw (s .board-same) (record { true-sum = v .used });
       used-along = rw e (v .used-along);
       again = rw (s .board-same) (v .again);
       line-again = rw (s .board-same) (v .line-again);

@@ -6,7 +6,6 @@ use mathlib.Core.List.{List, [], _∷_, _++_}
 use Prim.Native.Nat.{ℕ, zero, suc}
 use lib.ListN.{take, replicate}
 use Rattle.directory.specs.Directory as directory
-use Rattle.directory.specs.Directory.{entries, sizesIn}
 use Rattle.files.specs.Files.{appended, recordBytes, deleted, purged}
 use Rattle.files.specs.Moves.{filesClosed, recordsClosed, closed}
 use Rattle.queue.specs.Record.{Bytes}
@@ -14,7 +13,6 @@ use Rattle.state.specs.declared.Config.{Config}
 use Rattle.state.specs.Commands.{commandOf}
 use Rattle.state.specs.Editions.{older, newer}
 use Rattle.state.specs.State.{config}
-use Rattle.record.specs.Reading.{usedIn}
 use Rattle.rules.specs.World.{World, used}
 use Rattle.rules.specs.Files.{lacksSpace, beginUpload, uploadData, uploadWaits, deleteFile, purge}
 use Rattle.rules.specs.Step.{Input, time, obey, code, argument, alone, byPhase, waits, refuse, after, step}
@@ -24,6 +22,7 @@ use Rattle.calls.specs.Start.{Started, startChecked, startOf, startWorld}
 use Rattle.calls.specs.List.{Board, board}
 use Rattle.calls.specs.Bytes.{BytesInAll, ByteMemory}
 use Rattle.promises.specs.Made.{Made, fed, timed, arrived, handed, refusedFeed, refusedTime, refusedArrive, refusedTake, refusedStart, MeetsAll, left, leftAll, callsOf}
+use Rattle.promises.specs.Promise.{UsedRoom}
 use Rattle.promises.proofs.Bars.{promised, promised-from-start}
 
 -- ---- after each call
@@ -48,17 +47,13 @@ take-bytes (suc n) (refusedArrive t k x s ∷ l) h = take-bytes n l h
 take-bytes (suc n) (refusedTake t k s ∷ l) h = take-bytes n l h
 take-bytes (suc n) (refusedStart d z k s ∷ l) h = take-bytes n l h
 
--- what a board keeps
-pub record UsedRoom (b : Board) : Type 0 where
-  pub kept : usedIn (b .memory .state) ≡ sizesIn (entries (b .memory .store))
-
 pub used-room : (m : Memory) (q : List ℕ) (l : List Made) → ByteMemory m → checked m ≡ 0 → MeetsAll (board m q) l → BytesInAll (callsOf l) → (n : ℕ) → UsedRoom (leftAll (board m q) (take n l))
-used-room m q l b e h i n = record { kept = promised m q (take n l) b e (take-meets n (board m q) l h) (take-bytes n l i) .used }
+used-room m q l b e h i n = promised m q (take n l) b e (take-meets n (board m q) l h) (take-bytes n l i) .used
 
 pub used-room-from-start : (f : Config) (m : Memory) (q : List ℕ) (s : Started) (l : List Made) → s ≡ startOf f m q → Bytes (m .store) → startChecked f m q ≡ 0
     → MeetsAll (board (s .left) (s .queue)) l → BytesInAll (callsOf l) → (n : ℕ) → UsedRoom (leftAll (board (s .left) (s .queue)) (take n l))
 used-room-from-start f m q s l e b c h i n =
-    record { kept = promised-from-start f m q s (take n l) e b c (take-meets n (board (s .left) (s .queue)) l h) (take-bytes n l i) .used }
+    promised-from-start f m q s (take n l) e b c (take-meets n (board (s .left) (s .queue)) l h) (take-bytes n l i) .used
 
 -- ---- what changes it
 

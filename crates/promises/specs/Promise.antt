@@ -32,6 +32,10 @@ use Rattle.promises.specs.Answers.{AnswersAll}
 pub record ShowsWhole (b : Bar) (g : List ℕ) : Type 0 where
   pub pixels : (x y : ℕ) → rectangleOf b x y ≡ true → pixel g x y ≡ fullPicture b (b .value) x y
 
+-- the used room that a board's record keeps is the directory's own sum of file sizes
+pub record UsedRoom (b : Board) : Type 0 where
+  pub true-sum : usedIn (b .memory .state) ≡ sizesIn (entries (b .memory .store))
+
 pub record Promise (b : Board) (l : List Made) : Type 0 where
   -- each call's answer is the rules' one
   pub answers : AnswersAll b l
@@ -54,8 +58,8 @@ pub record Promise (b : Board) (l : List Made) : Type 0 where
   pub never-28 : (port (loaded (b .memory)) .refusals .last ≡ noGlyph → ⊥) → decodeOf (leftAll b l .memory .state) .port .refusals .last ≡ noGlyph → ⊥
   -- height and edition stay
   pub config : configIn (leftAll b l .memory .state) ≡ configIn (b .memory .state)
-  -- the used room that the record keeps is the directory's own sum of file sizes, after the list and after every input
-  pub used : usedIn (leftAll b l .memory .state) ≡ sizesIn (entries (leftAll b l .memory .store))
+  -- the used room is true, after the list and after every input
+  pub used : UsedRoom (leftAll b l)
   pub used-along : (n : ℕ) → TrueSum (run (loaded (b .memory)) (take n (allConsumed l)))
   -- the next call is not refused with 1 to 4; an arrival or a take is not where the queue record was sound
   pub again : checked (leftAll b l .memory) ≡ 0
