@@ -196,24 +196,6 @@ impl Machine<'_> {
         Ok(Footprint::Dots(dots))
     }
 
-    fn solid(&mut self, a: &[u8]) -> Result<Footprint, u8> {
-        if a[1] > a[3] || a[2] > a[4] {
-            return Err(18);
-        }
-        if is(M::SolidOffGlassRefused) && !on_glass(self.state.height, a[3], a[4]) {
-            return Err(17);
-        }
-        if is(M::SolidNeedsTwoByTwo) && (a[1] == a[3] || a[2] == a[4]) {
-            return Err(18);
-        }
-        let mut black = is_black(a[0]) && !(is(M::SolidOneAloneIsBlack) && a[0] != 1);
-        if is(M::SolidUsesDrawingColour) {
-            black = self.state.black;
-        }
-        self.glass.fill(a[1] as usize, a[2] as usize, a[3] as usize, a[4] as usize, black);
-        Ok(Footprint::rectangle(a[1], a[2], a[3], a[4]))
-    }
-
     fn inline_begins(&mut self, a: &[u8]) -> Result<Footprint, u8> {
         if a[0] > a[2] || a[1] > a[3] {
             return Err(18);

@@ -70,6 +70,7 @@ pub mod prng;
 pub mod properties;
 pub mod queue;
 pub mod shrink;
+pub mod solid;
 pub mod start;
 pub mod state;
 pub mod text;

@@ -12,3 +12,4 @@ pub mod random;
 pub mod record;
 pub mod report;
 pub mod streams;
+pub mod sweep;
