@@ -53,6 +53,7 @@ static const Work works[] = {
     {"mixed, a byte", 700, nothing, NULL, "mixed", PIECE},
     {"bars, a byte", 0, nothing, NULL, "bars", PIECE},
     {"rectangles and frames, a byte", 0, nothing, NULL, "rectangles and frames", PIECE},
+    {"rectangles of 3 by 3, a byte", 0, nothing, NULL, "rectangles of 3 by 3", PIECE},
     {"lines, a byte", 0, nothing, NULL, "lines", PIECE},
     {"strips, a byte", 0, nothing, NULL, "strips", PIECE},
     {"saved bitmaps, a byte", 0, nothing, NULL, "saved bitmaps", PIECE},

@@ -107,7 +107,7 @@ static void print_row(const char *name, double ours, const char *other, double t
     if (goal == COUNTED)
         printf("in instructions | |\n");
     else
-        printf("%.0f | %s |\n", goal, met(ratio <= goal));
+        printf("%g | %s |\n", goal, met(ratio <= goal));
 }
 
 // Every way must leave the same picture, or it is not worth timing.
@@ -135,12 +135,12 @@ static void print_fill(const char *name, const Repeated *r, bool black, double s
     race(runners, pixman ? PIXMAN + 1 : PIXMAN, shortest);
     ours = runners[LIBRARY].seconds / (double)r->count;
     print_row(name, ours, "set-pixel loop", runners[PIXELS].seconds, 1);
-    print_row(name, ours, "fill by bytes", runners[BYTES].seconds, 10);
+    print_row(name, ours, "fill by bytes", runners[BYTES].seconds, 1.5);
     print_row(name, ours, "memset of 1,920 bytes", runners[MEMSET].seconds, 10);
     if (pixman)
-        print_row(name, ours, "pixman_fill", runners[PIXMAN].seconds, 10);
+        print_row(name, ours, "pixman_fill", runners[PIXMAN].seconds, 1);
     else
-        printf("| %s | %.1f | pixman_fill | pixman not installed | | 10 | not measured |\n", name, 1e9 * ours);
+        printf("| %s | %.1f | pixman_fill | pixman not installed | | 1 | not measured |\n", name, 1e9 * ours);
     fflush(stdout);
 }
 

@@ -84,6 +84,17 @@ static void rectangles(Stream *s)
     PUT(s, COMMAND, RECTANGLE, 0, 0, 0, DISPLAY_WIDTH - 1, DISPLAY_LOW_HEIGHT - 1);
 }
 
+// 3 by 3, from every column of a byte.
+static void small_rectangles(Stream *s)
+{
+    enum { COUNT = 64, SIZE = 3 };
+    unsigned i;
+    for (i = 0; i < COUNT; i++) {
+        uint8_t x = (uint8_t)(11 * i % (DISPLAY_WIDTH - SIZE)), y = (uint8_t)(7 * i % (DISPLAY_LOW_HEIGHT - SIZE));
+        PUT(s, COMMAND, RECTANGLE, (uint8_t)(i / 8 % 2), x, y, (uint8_t)(x + SIZE - 1), (uint8_t)(y + SIZE - 1));
+    }
+}
+
 static void point(Stream *s)
 {
     uint8_t x = pick(DISPLAY_WIDTH), y = pick(DISPLAY_LOW_HEIGHT);
@@ -237,20 +248,21 @@ static void nothing(Stream *s)
 enum { OLDER = DISPLAY_OLDER_EDITION, NEWER = DISPLAY_NEWER_EDITION };
 
 const Family families[] = {
-    {"text", OLDER, nothing, text_page, 1, 0},
-    {"text that scrolls", OLDER, nothing, scrolled_text, 1, 0},
-    {"missing letters", OLDER, nothing, missing_letters, 1, 0},
-    {"bars", OLDER, nothing, bars, 1, 0},
-    {"rectangles and frames", OLDER, nothing, rectangles, 1, 0},
-    {"lines", OLDER, nothing, lines, 1.2, 0},
-    {"pixels", OLDER, nothing, pixels, 3, 0},
-    {"strips", OLDER, text_page, strips, 1, 0},
-    {"saved bitmaps", OLDER, upload, saved_bitmaps, 1, 0},
-    {"in-line bitmaps", OLDER, nothing, inline_bitmaps, 1.2, 0},
-    {"upload and delete", OLDER, nothing, upload_and_delete, 3, 1},
-    {"saved bitmaps, newer edition", NEWER, newer_upload, newer_bitmaps, 1, 0},
-    {"upload and delete, newer edition", NEWER, nothing, newer_upload_and_delete, 3, 0},
-    {"upload and delete, 59 other files", OLDER, other_files, upload_and_delete, 3, 1},
+    {"text", OLDER, nothing, text_page, {1, NONE}, 0},
+    {"text that scrolls", OLDER, nothing, scrolled_text, {1, NONE}, 0},
+    {"missing letters", OLDER, nothing, missing_letters, {1, NONE}, 0},
+    {"bars", OLDER, nothing, bars, {1, 1.5}, 0},
+    {"rectangles and frames", OLDER, nothing, rectangles, {1, 1.5}, 0},
+    {"rectangles of 3 by 3", OLDER, nothing, small_rectangles, {1, NONE}, 0},
+    {"lines", OLDER, nothing, lines, {1.2, NONE}, 0},
+    {"pixels", OLDER, nothing, pixels, {3, NONE}, 0},
+    {"strips", OLDER, text_page, strips, {1, NONE}, 0},
+    {"saved bitmaps", OLDER, upload, saved_bitmaps, {1, NONE}, 0},
+    {"in-line bitmaps", OLDER, nothing, inline_bitmaps, {1.2, NONE}, 0},
+    {"upload and delete", OLDER, nothing, upload_and_delete, {3, NONE}, 1},
+    {"saved bitmaps, newer edition", NEWER, newer_upload, newer_bitmaps, {1, NONE}, 0},
+    {"upload and delete, newer edition", NEWER, nothing, newer_upload_and_delete, {3, NONE}, 0},
+    {"upload and delete, 59 other files", OLDER, other_files, upload_and_delete, {3, NONE}, 1},
 };
 const size_t family_count = sizeof families / sizeof *families;
 

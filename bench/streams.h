@@ -13,13 +13,19 @@ typedef struct {
 
 typedef void Build(Stream *);
 
-// A family: the edition of its hosts, what is sent before it, what is timed, how many times plain C's time it may take,
-// and whether it is timed in pieces of one byte too, as a host sends them that waits for each reply.
+// How many times plain C's time is allowed: with its pixel loops, and by bytes, where that may be NONE.
+enum { NONE = 0 };
+typedef struct {
+    double plain, by_bytes;
+} Goal;
+
+// A family: the edition of its hosts, what is sent before it, what is timed, its goal, and whether it is timed in pieces
+// of one byte too, as a host sends them that waits for each reply.
 typedef struct {
     const char *name;
     unsigned edition;
     Build *setup, *timed;
-    double goal;
+    Goal goal;
     int by_byte;
 } Family;
 

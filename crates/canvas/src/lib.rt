@@ -59,7 +59,7 @@ impl Colour {
 }
 
 // A byte whose bits under the mask are in the colour c; the others stay.
-fn painted(byte: u8, mask: u8, c: Colour) -> u8
+pub fn painted(byte: u8, mask: u8, c: Colour) -> u8
     ensures { λ r. ⌜ r ≡ paintedOf byte mask (c .black) ⌝ }
 {
     if c.black { byte | mask } else { byte & !mask }

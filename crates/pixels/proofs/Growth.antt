@@ -1,7 +1,7 @@
--- A region that grows pixel by pixel, and row by row: the invariants of the painters' loops.
+-- A region that grows column by column, and row by row: the invariants of the painters' loops.
 -- Assumes nothing.
 use mathlib.Core.Path.{_≡_, refl, sym, ap, _∙_}
-use mathlib.Core.Bool.{Bool, _||_, and-false, and-or-distrib-left, and-or-distrib-right}
+use mathlib.Core.Bool.{Bool, _&&_, _||_, and-false, and-or-distrib-left, and-or-distrib-right}
 use mathlib.Core.List.{List}
 use Prim.Native.Nat.{ℕ, _+_, _<_, _≤_, max}
 use native.Mathlib.Omega.{arith}
@@ -12,23 +12,13 @@ use Rattle.pixels.specs.Regions.{within, point, span, box}
 use Rattle.pixels.proofs.Pictures.{Bytes}
 use Rattle.pixels.proofs.Painting.{put-same, put-region, put-off, put-put, length-repaint}
 use Rattle.pixels.proofs.Tests.{and-one, and-two}
-use Rattle.pixels.proofs.Intervals.{within-none, within-more, within-join, within-iff, within-true, point-true}
+use Rattle.pixels.proofs.Intervals.{within-none, within-more, within-join, within-true, point-true}
 use borrow.Author.Tests.{eqb-true}
 
 -- one pixel of the picture p
 pub put-point : (x y : ℕ) (c : Bool) (p : Picture) (g : List ℕ) → c ≡ p x y → fill (point x y) c g ≡ put (point x y) p g
 put-point x y c p g e =
     put-same (point x y) (point x y) (λ u v. c) p g (λ u v on. refl) (λ u v on k. let t = point-true x y u v k in e ∙ rw (t .0, t .1))
-
-span-none : (x y : ℕ) (p : Picture) (g : List ℕ) → Bytes g → g ≡ put (span x x y) p g
-span-none x y p g b = put-off (span x x y) p g b (λ u v on. rw (within-none x u))
-
-span-more : (x1 x y : ℕ) (c : Bool) (p : Picture) (g : List ℕ) → x1 ≤ x → c ≡ p x y
-    → fill (point x y) c (put (span x1 x y) p g) ≡ put (span x1 (x + 1) y) p g
-span-more x1 x y c p g h e =
-    put-point x y c p (put (span x1 x y) p g) e ∙ put-put (span x1 x y) (point x y) p g
-    ∙ put-region (λ u v. span x1 x y u v || point x y u v) (span x1 (x + 1) y) p g
-    (λ u v on. sym (and-or-distrib-right (within x1 x u) (eqb u x) (eqb v y)) ∙ rw (within-more x1 x u h))
 
 -- columns x up to e after those up to x
 span-joined : (x1 x e y : ℕ) (p q : Picture) (g : List ℕ) → x1 ≤ x → x ≤ e → ((u : ℕ) → x ≤ u → u < e → q u y ≡ p u y)
@@ -49,17 +39,7 @@ pub record SpanPainted (x1 x2 y x : ℕ) (p : Picture) (g₀ g : List ℕ) : Typ
   pub shows : g ≡ put (span x1 x y) p g₀
 
 module _ {x1 x2 y : ℕ} {p : Picture} {g₀ : List ℕ} where
-  pub span-start : Bytes g₀ → SpanPainted x1 x2 y x1 p g₀ g₀
-  span-start b = record { low = omega arith; high = omega arith; long = refl; shows = span-none x1 y p g₀ b }
-
-  pub span-step : {x : ℕ} {g h : List ℕ} {c : Bool} → SpanPainted x1 x2 y x p g₀ g → x < x2 → h ≡ fill (point x y) c g → c ≡ p x y
-      → SpanPainted x1 x2 y (x + 1) p g₀ h
-  span-step {x} {g} {h} {c} s l e f = record { low = omega arith; high = omega arith; long = ap length all ∙ length-repaint _ g₀; shows = all }
-    where
-      all : h ≡ put (span x1 (x + 1) y) p g₀
-      all = e ∙ ap (fill (point x y) c) (s .shows) ∙ span-more x1 x y c p g₀ (s .low) f
-
-  -- the same of several columns at once, whose picture agrees with p
+  -- several columns at once, whose picture agrees with p
   pub span-run : {x e : ℕ} {g h : List ℕ} (q : Picture) → SpanPainted x1 x2 y x p g₀ g → x ≤ e → e ≤ x2 → h ≡ put (span x e y) q g
       → ((u : ℕ) → x ≤ u → u < e → q u y ≡ p u y) → SpanPainted x1 x2 y e p g₀ h
   span-run {x} {e} {g} {h} q s l m d f = record { low = omega (arith, s .low); high = omega arith; long = ap length all ∙ length-repaint _ g₀; shows = all }
@@ -67,19 +47,41 @@ module _ {x1 x2 y : ℕ} {p : Picture} {g₀ : List ℕ} where
       all : h ≡ put (span x1 e y) p g₀
       all = d ∙ ap (put (span x e y) q) (s .shows) ∙ span-joined x1 x e y p q g₀ (s .low) l f
 
-  pub span-end : {x : ℕ} {g : List ℕ} → SpanPainted x1 x2 y x p g₀ g → x2 ≤ x → g ≡ put (span x1 x2 y) p g₀
-  span-end {x} s l =
-      s .shows ∙ put-region (span x1 x y) (span x1 x2 y) p g₀ (λ u v on. rw (within-iff x1 x u x1 x2 u (omega arith) (omega arith)))
+-- columns f of the rows from y on: of none, and of one more
+rows-none : (f : ℕ → Bool) (y : ℕ) (p : Picture) (g : List ℕ) → Bytes g → g ≡ put (λ u v. f u && within y y v) p g
+rows-none f y p g b = put-off (λ u v. f u && within y y v) p g b (λ u v on. rw (within-none y v) (and-false (f u)))
+
+rows-more : (f : ℕ → Bool) (y1 y : ℕ) (p : Picture) (g : List ℕ) → y1 ≤ y
+    → put (λ u v. f u && eqb v y) p (put (λ u v. f u && within y1 y v) p g) ≡ put (λ u v. f u && within y1 (y + 1) v) p g
+rows-more f y1 y p g h =
+    put-put (λ u v. f u && within y1 y v) (λ u v. f u && eqb v y) p g
+    ∙ put-region (λ u v. (f u && within y1 y v) || (f u && eqb v y)) (λ u v. f u && within y1 (y + 1) v) p g
+    (λ u v on. sym (and-or-distrib-left (f u) (within y1 y v) (eqb v y)) ∙ rw (within-more y1 y v h))
 
 pub box-none : (x1 x2 y : ℕ) (p : Picture) (g : List ℕ) → Bytes g → g ≡ put (box x1 x2 y y) p g
-box-none x1 x2 y p g b = put-off (box x1 x2 y y) p g b (λ u v on. rw (within-none y v) (and-false (within x1 x2 u)))
+box-none x1 x2 y p g b = rows-none (within x1 x2) y p g b
 
 pub box-more : (x1 x2 y1 y : ℕ) (p : Picture) (g : List ℕ) → y1 ≤ y
     → put (span x1 x2 y) p (put (box x1 x2 y1 y) p g) ≡ put (box x1 x2 y1 (y + 1)) p g
-box-more x1 x2 y1 y p g h =
-    put-put (box x1 x2 y1 y) (span x1 x2 y) p g
-    ∙ put-region (λ u v. box x1 x2 y1 y u v || span x1 x2 y u v) (box x1 x2 y1 (y + 1)) p g
-    (λ u v on. sym (and-or-distrib-left (within x1 x2 u) (within y1 y v) (eqb v y)) ∙ rw (within-more y1 y v h))
+box-more x1 x2 y1 y p g h = rows-more (within x1 x2) y1 y p g h
+
+-- columns f of the rows painted up to row y
+pub record Down (f : ℕ → Bool) (y : ℕ) (p : Picture) (g₀ g : List ℕ) : Type 0 where
+  pub long : length g ≡ length g₀
+  pub shows : g ≡ put (λ u v. f u && within 0 y v) p g₀
+
+module _ {f : ℕ → Bool} {p : Picture} {g₀ : List ℕ} where
+  pub down-none : Bytes g₀ → Down f 0 p g₀ g₀
+  down-none b = record { long = refl; shows = rows-none f 0 p g₀ b }
+
+  pub down-more : {y : ℕ} {g h : List ℕ} → Down f y p g₀ g → h ≡ put (λ u v. f u && eqb v y) p g → Down f (y + 1) p g₀ h
+  down-more {y} {g} {h} s e = record { long = ap length all ∙ length-repaint _ g₀; shows = all }
+    where
+      all : h ≡ put (λ u v. f u && within 0 (y + 1) v) p g₀
+      all = e ∙ ap (put (λ u v. f u && eqb v y) p) (s .shows) ∙ rows-more f 0 y p g₀ (omega arith)
+
+  pub down-to : {y n : ℕ} {g : List ℕ} → Down f y p g₀ g → y ≡ n → g ≡ put (λ u v. f u && within 0 n v) p g₀
+  down-to s e = s .shows ∙ ap (λ (n : ℕ). put (λ u v. f u && within 0 n v) p g₀) e
 
 -- the first n rows painted up to row y
 pub record RowsPainted (x1 x2 n y : ℕ) (p : Picture) (g₀ g : List ℕ) : Type 0 where
@@ -88,14 +90,17 @@ pub record RowsPainted (x1 x2 n y : ℕ) (p : Picture) (g₀ g : List ℕ) : Typ
   pub shows : g ≡ put (box x1 x2 0 y) p g₀
 
 module _ {x1 x2 n : ℕ} {p : Picture} {g₀ : List ℕ} where
+  of-down : {y : ℕ} {g : List ℕ} → y ≤ n → Down (within x1 x2) y p g₀ g → RowsPainted x1 x2 n y p g₀ g
+  of-down h d = record { high = h; long = d .long; shows = d .shows }
+
+  to-down : {y : ℕ} {g : List ℕ} → RowsPainted x1 x2 n y p g₀ g → Down (within x1 x2) y p g₀ g
+  to-down s = record { long = s .long; shows = s .shows }
+
   pub rows-start : Bytes g₀ → RowsPainted x1 x2 n 0 p g₀ g₀
-  rows-start b = record { high = omega arith; long = refl; shows = box-none x1 x2 0 p g₀ b }
+  rows-start b = of-down (omega arith) (down-none b)
 
   pub rows-step : {y : ℕ} {g h : List ℕ} → RowsPainted x1 x2 n y p g₀ g → y < n → h ≡ put (span x1 x2 y) p g → RowsPainted x1 x2 n (y + 1) p g₀ h
-  rows-step {y} {g} {h} s l e = record { high = omega arith; long = ap length all ∙ length-repaint _ g₀; shows = all }
-    where
-      all : h ≡ put (box x1 x2 0 (y + 1)) p g₀
-      all = e ∙ ap (put (span x1 x2 y) p) (s .shows) ∙ box-more x1 x2 0 y p g₀ (omega arith)
+  rows-step s l e = of-down (omega arith) (down-more (to-down s) e)
 
   pub rows-end : {y : ℕ} {g : List ℕ} → RowsPainted x1 x2 n y p g₀ g → n ≤ y → g ≡ put (box x1 x2 0 n) p g₀
-  rows-end {y} s l = let e : y ≡ n = omega arith in s .shows ∙ ap (λ (k : ℕ). put (box x1 x2 0 k) p g₀) e
+  rows-end {y} s l = let e : y ≡ n = omega (arith, s .high) in down-to (to-down s) e

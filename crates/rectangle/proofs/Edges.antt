@@ -1,6 +1,6 @@
 -- Four edges are a frame.
 -- Assumes nothing.
-use mathlib.Core.Path.{_≡_, refl, sym, ap, _∙_}
+use mathlib.Core.Path.{_≡_, refl, sym, _∙_}
 use mathlib.Core.Bool.{Bool, true, false, _&&_, _||_, and-false}
 use mathlib.Core.List.{List}
 use Prim.Native.Nat.{ℕ, _+_, _<_, _≤_}
@@ -10,9 +10,10 @@ use borrow.Author.Tests.{eqb-true}
 use Rattle.pixels.specs.Framebuffer.{Region, fill, plain}
 use Rattle.pixels.specs.Regions.{within, rectangle}
 use Rattle.pixels.proofs.Pictures.{Bytes}
-use Rattle.pixels.proofs.Painting.{put-put, put-region, put-off}
+use Rattle.pixels.proofs.Painting.{put-region, put-off}
 use Rattle.pixels.proofs.Intervals.{within-one, within-yes, within-iff, within-none}
 use Rattle.rectangle.specs.Frame.{frame}
+use Rattle.rectangle.proofs.Runs.{more}
 
 off : (a : Bool) → (a ≡ true → false ≡ true) → a ≡ false
 off true e = sym (e refl)
@@ -32,10 +33,6 @@ edges true true a b c d p q r s = tidy a b c d
 edges true false a b c d p q r s = rw (off a p, off b q, and-false, and-false)
 edges false true a b c d p q r s = rw (off c r, off d s)
 edges false false a b c d p q r s = rw (and-false, and-false)
-
--- one region more
-more : (s t : Region) (c : Bool) (g h k : List ℕ) → h ≡ fill s c g → k ≡ fill t c h → k ≡ fill (λ u v. s u v || t u v) c g
-more s t c g h k e f = f ∙ ap (fill t c) e ∙ put-put s t (plain c) g
 
 module _ (x1 y1 x2 y2 : ℕ) (c : Bool) (g : List ℕ) where
   upper : Region

@@ -1,12 +1,12 @@
 //! Bars with their sides at every column of a byte, the stripes between two values, and boxes of missing letters.
 
-use compare::sweep::{colour_name, distance, Ground, Sweep, DISTANCES, GROUNDS};
+use compare::sweep::{colour_name, Ground, Sweep, GROUNDS};
 use reference::case_file::upload;
 use reference::edition::OLDER;
 use reference::glass::{LOW, TALL, WIDTH};
 
 const SIDES: [&str; 4] = ["bottom", "left", "top", "right"];
-/// The distances that bars are set up with; the stripes of short bars meet the first three besides.
+/// Bytes from one side of a bar to the other; the stripes of short bars meet the first three besides.
 const APART: [u8; 4] = [0, 1, 2, 26];
 
 /// A bar that is set up on both sides, with the value that was written last.
@@ -60,14 +60,14 @@ impl Bar {
             assert_eq!(done.changed, !hidden, "columns {from} to {to}");
         }
         if done.changed || hidden {
-            sweep.note(stripe_name(self.side, black, sweep.ground, from % 8, to % 8, distance(from, to)));
+            sweep.note(stripe_name(self.side, black, sweep.ground, from % 8, to % 8, to / 8 - from / 8));
         }
     }
 }
 
-fn stripe_name(side: u8, black: bool, ground: Ground, left: u8, right: u8, distance: &str) -> String {
+fn stripe_name(side: u8, black: bool, ground: Ground, left: u8, right: u8, apart: u8) -> String {
     let (side, colour) = (SIDES[side as usize], colour_name(black));
-    format!("{side}, {colour} on {ground:?}: from {left} to {right} {distance}")
+    format!("{side}, {colour} on {ground:?}: from {left} to {right}, {apart} bytes on")
 }
 
 /// Every two columns of a byte, for each colour and ground.
@@ -77,10 +77,8 @@ fn wanted() -> Vec<String> {
         for (left, right) in (0..8).flat_map(|left| (0..8).map(move |right| (left, right))) {
             // a bar has two columns at least, a stripe one
             let fits = left < right || left == right && side % 2 == 1;
-            for distance in &DISTANCES[if fits { 0 } else { 1 }..] {
-                if *distance != DISTANCES[3] {
-                    wanted.extend([false, true].map(|of| stripe_name(side, of, ground, left, right, distance)));
-                }
+            for apart in &APART[if fits { 0 } else { 1 }..] {
+                wanted.extend([false, true].map(|of| stripe_name(side, of, ground, left, right, *apart)));
             }
         }
     }

@@ -1,6 +1,6 @@
 //! Solids and frames with their ends at every column of a byte, clipped and out of order, on every ground.
 
-use compare::sweep::{colour_name, distance, Ground, Sweep, DISTANCES, GROUNDS};
+use compare::sweep::{colour_name, Ground, Sweep, GROUNDS};
 use reference::glass::{HEIGHTS, LOW, TALL, WIDTH};
 use std::collections::BTreeSet;
 
@@ -29,12 +29,13 @@ const ROWS: [&str; 8] = [
     "rows out of order",
 ];
 
-/// Every two ends at several distances and places, every small and every great width, and the corners about the edge.
+/// Every two ends with any number of bytes from one to the other, every small and every great width, and the corners about
+/// the edge.
 fn columns() -> BTreeSet<(u8, u8)> {
     let mut all = BTreeSet::new();
     for (left, right) in every_two() {
-        for apart in [0, 1, 2, 3, 26] {
-            for first in [0, (LAST_BYTE - apart) / 2, LAST_BYTE - apart] {
+        for apart in 0..=LAST_BYTE {
+            for first in [0, LAST_BYTE - apart] {
                 all.insert((8 * first + left, 8 * (first + apart) + right));
             }
         }
@@ -79,8 +80,8 @@ fn rows_name(height: u8, y1: u8, y2: u8) -> Option<&'static str> {
     Some(ROWS[name])
 }
 
-fn ends_name(left: u8, right: u8, distance: &str) -> String {
-    format!("ends {left} and {right} {distance}")
+fn ends_name(left: u8, right: u8, apart: u8) -> String {
+    format!("ends {left} and {right}, {apart} bytes on")
 }
 
 fn width_name(width: u8, left: u8) -> String {
@@ -110,7 +111,7 @@ fn things(height: u8, [x1, y1, x2, y2]: [u8; 4]) -> Vec<String> {
     // 256 columns are told as 255, which nothing below asks for
     let width = (x2 - x1).saturating_add(1);
     if (x2 as usize) < WIDTH {
-        things.push(ends_name(x1 % 8, x2 % 8, distance(x1, x2)));
+        things.push(ends_name(x1 % 8, x2 % 8, x2 / 8 - x1 / 8));
     }
     if WIDTHS.contains(&width) && (x2 as usize) < WIDTH {
         things.push(width_name(width, x1 % 8));
@@ -126,8 +127,8 @@ fn wanted() -> Vec<String> {
     things.push("columns out of order".into());
     for (left, right) in every_two() {
         // within a byte the others are out of order
-        let from = (left > right) as usize;
-        things.extend(DISTANCES[from..].iter().map(|distance| ends_name(left, right, distance)));
+        let from = (left > right) as u8;
+        things.extend((from..=LAST_BYTE).map(|apart| ends_name(left, right, apart)));
     }
     things.extend(WIDTHS.flat_map(|width| (0..8).map(move |left| width_name(width, left))));
     things.extend(GREAT_WIDTHS.flat_map(|width| (0..=8).map(move |left| width_name(width, left))));

@@ -37,18 +37,6 @@ impl Ground {
     }
 }
 
-/// How two ends of a row lie to each other.
-pub const DISTANCES: [&str; 5] =
-    ["in one byte", "in neighbouring bytes", "with a byte between", "with some bytes between", "far apart"];
-
-pub fn distance(left: u8, right: u8) -> &'static str {
-    DISTANCES[match right / 8 - left / 8 {
-        apart @ 0..=2 => apart as usize,
-        3..=19 => 3,
-        _ => 4,
-    }]
-}
-
 pub fn colour_name(black: bool) -> &'static str {
     if black {
         "black"
