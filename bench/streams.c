@@ -253,7 +253,7 @@ const Family families[] = {
     {"missing letters", OLDER, nothing, missing_letters, {1, NONE}, 0},
     {"bars", OLDER, nothing, bars, {1, 1.5}, 0},
     {"rectangles and frames", OLDER, nothing, rectangles, {1, 1.5}, 0},
-    {"rectangles of 3 by 3", OLDER, nothing, small_rectangles, {1, NONE}, 0},
+    {"rectangles of 3 by 3", OLDER, nothing, small_rectangles, {3, NONE}, 0},
     {"lines", OLDER, nothing, lines, {1.2, NONE}, 0},
     {"pixels", OLDER, nothing, pixels, {3, NONE}, 0},
     {"strips", OLDER, text_page, strips, {1, NONE}, 0},

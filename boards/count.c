@@ -2,6 +2,8 @@
 // shift=6) and a tick of the board's timer 40 ns, so the timer tells their number exactly.
 #include "subject.h"
 
+#include "commands.h"
+
 #include <stdio.h>
 #include <stdlib.h>
 #include <string.h>
@@ -82,15 +84,15 @@ static void print_row(const char *name, unsigned long count)
     printf("| %s | %lu | | |\n", name, count);
 }
 
-// On a display that has been fed what goes before it.
-static unsigned long of_stream(const char *name, void (*run)(void))
+// Of each of so many units of the stream, on a display that has been fed what goes before it.
+static unsigned long of_stream(const char *name, void (*run)(void), size_t units)
 {
     unsigned long count;
     start();
     feed(setup.bytes, setup.length);
     count = instructions(run);
     expect_no_refusal(name);
-    return (count + stream.length / 2) / stream.length;
+    return (count + units / 2) / units;
 }
 
 static void print_family(const char *name)
@@ -103,7 +105,18 @@ static void print_family(const char *name)
     families[i].setup(&setup);
     families[i].timed(&stream);
     snprintf(row, sizeof row, "%s, a byte, in pieces of %d", name, LARGE);
-    print_row(row, of_stream(name, feed_large));
+    print_row(row, of_stream(name, feed_large, stream.length));
+}
+
+// Black and white by turns, in one piece.
+static void print_whole_glass(void)
+{
+    enum { COUNT = 64 };
+    unsigned i;
+    setup.length = stream.length = 0;
+    for (i = 0; i < COUNT; i++)
+        PUT(&stream, COMMAND, RECTANGLE, (uint8_t)(i % 2), 0, 0, DISPLAY_WIDTH - 1, DISPLAY_LOW_HEIGHT - 1);
+    print_row("a rectangle over the whole glass", of_stream("whole glass", feed_large, COUNT));
 }
 
 int main(void)
@@ -117,8 +130,11 @@ int main(void)
     print_family("pixels");
     setup.length = stream.length = 0;
     mixed(&stream);
-    obeyed = of_stream("mixed", feed_large);
-    whole = of_stream("mixed", queue_and_feed);
+    obeyed = of_stream("mixed", feed_large, stream.length);
+    whole = of_stream("mixed", queue_and_feed, stream.length);
+    print_family("bars");
+    print_family("rectangles and frames");
+    print_whole_glass();
     start();
     line = instructions(queue_byte);
     checks = instructions(feed_nothing);

@@ -30,8 +30,9 @@ impl Machine<'_> {
     }
 }
 
+/// The bytes of both ends and those between: no wrong version but the last goes beyond them.
 fn paint_row(glass: &mut Glass, y: usize, x1: usize, x2: usize, black: bool) {
-    for x in 0..WIDTH {
+    for x in x1 / 8 * 8..(x2 / 8 * 8 + 8).min(WIDTH) {
         if covers(x1, x2, x) {
             glass.set(x, y, black || is(M::SolidWholeBytesAlwaysBlack) && between(x1, x2, x));
         } else if wipes(x1, x2, x, black) {
