@@ -1,4 +1,5 @@
 -- Columns of a row by its bytes.
+-- What contracts of private functions cite, and no rule.
 -- Assumes nothing.
 use mathlib.Core.Bool.{Bool, true, false, _&&_, _||_}
 use Prim.Native.Nat.{ℕ, _+_, _-_, _*_, _/_, _%_, _^_, _<_, _≤_}
