@@ -116,7 +116,7 @@ static void print_whole_glass(void)
     setup.length = stream.length = 0;
     for (i = 0; i < COUNT; i++)
         PUT(&stream, COMMAND, RECTANGLE, (uint8_t)(i % 2), 0, 0, DISPLAY_WIDTH - 1, DISPLAY_LOW_HEIGHT - 1);
-    print_row("a rectangle over the whole glass", of_stream("whole glass", feed_large, COUNT));
+    print_row("a rectangle over the whole glass, a command", of_stream("whole glass", feed_large, COUNT));
 }
 
 int main(void)

@@ -66,22 +66,22 @@ pub box-more : (x1 x2 y1 y : ℕ) (p : Picture) (g : List ℕ) → y1 ≤ y
 box-more x1 x2 y1 y p g h = rows-more (within x1 x2) y1 y p g h
 
 -- columns f of the rows painted up to row y
-pub record Down (f : ℕ → Bool) (y : ℕ) (p : Picture) (g₀ g : List ℕ) : Type 0 where
+pub record ColumnsPainted (f : ℕ → Bool) (y : ℕ) (p : Picture) (g₀ g : List ℕ) : Type 0 where
   pub long : length g ≡ length g₀
   pub shows : g ≡ put (λ u v. f u && within 0 y v) p g₀
 
 module _ {f : ℕ → Bool} {p : Picture} {g₀ : List ℕ} where
-  pub down-none : Bytes g₀ → Down f 0 p g₀ g₀
-  down-none b = record { long = refl; shows = rows-none f 0 p g₀ b }
+  pub columns-start : Bytes g₀ → ColumnsPainted f 0 p g₀ g₀
+  columns-start b = record { long = refl; shows = rows-none f 0 p g₀ b }
 
-  pub down-more : {y : ℕ} {g h : List ℕ} → Down f y p g₀ g → h ≡ put (λ u v. f u && eqb v y) p g → Down f (y + 1) p g₀ h
-  down-more {y} {g} {h} s e = record { long = ap length all ∙ length-repaint _ g₀; shows = all }
+  pub columns-step : {y : ℕ} {g h : List ℕ} → ColumnsPainted f y p g₀ g → h ≡ put (λ u v. f u && eqb v y) p g → ColumnsPainted f (y + 1) p g₀ h
+  columns-step {y} {g} {h} s e = record { long = ap length all ∙ length-repaint _ g₀; shows = all }
     where
       all : h ≡ put (λ u v. f u && within 0 (y + 1) v) p g₀
       all = e ∙ ap (put (λ u v. f u && eqb v y) p) (s .shows) ∙ rows-more f 0 y p g₀ (omega arith)
 
-  pub down-to : {y n : ℕ} {g : List ℕ} → Down f y p g₀ g → y ≡ n → g ≡ put (λ u v. f u && within 0 n v) p g₀
-  down-to s e = s .shows ∙ ap (λ (n : ℕ). put (λ u v. f u && within 0 n v) p g₀) e
+  pub columns-end : {y n : ℕ} {g : List ℕ} → ColumnsPainted f y p g₀ g → y ≡ n → g ≡ put (λ u v. f u && within 0 n v) p g₀
+  columns-end s e = s .shows ∙ ap (λ (n : ℕ). put (λ u v. f u && within 0 n v) p g₀) e
 
 -- the first n rows painted up to row y
 pub record RowsPainted (x1 x2 n y : ℕ) (p : Picture) (g₀ g : List ℕ) : Type 0 where
@@ -90,17 +90,17 @@ pub record RowsPainted (x1 x2 n y : ℕ) (p : Picture) (g₀ g : List ℕ) : Typ
   pub shows : g ≡ put (box x1 x2 0 y) p g₀
 
 module _ {x1 x2 n : ℕ} {p : Picture} {g₀ : List ℕ} where
-  of-down : {y : ℕ} {g : List ℕ} → y ≤ n → Down (within x1 x2) y p g₀ g → RowsPainted x1 x2 n y p g₀ g
-  of-down h d = record { high = h; long = d .long; shows = d .shows }
+  of-columns : {y : ℕ} {g : List ℕ} → y ≤ n → ColumnsPainted (within x1 x2) y p g₀ g → RowsPainted x1 x2 n y p g₀ g
+  of-columns h d = record { high = h; long = d .long; shows = d .shows }
 
-  to-down : {y : ℕ} {g : List ℕ} → RowsPainted x1 x2 n y p g₀ g → Down (within x1 x2) y p g₀ g
-  to-down s = record { long = s .long; shows = s .shows }
+  to-columns : {y : ℕ} {g : List ℕ} → RowsPainted x1 x2 n y p g₀ g → ColumnsPainted (within x1 x2) y p g₀ g
+  to-columns s = record { long = s .long; shows = s .shows }
 
   pub rows-start : Bytes g₀ → RowsPainted x1 x2 n 0 p g₀ g₀
-  rows-start b = of-down (omega arith) (down-none b)
+  rows-start b = of-columns (omega arith) (columns-start b)
 
   pub rows-step : {y : ℕ} {g h : List ℕ} → RowsPainted x1 x2 n y p g₀ g → y < n → h ≡ put (span x1 x2 y) p g → RowsPainted x1 x2 n (y + 1) p g₀ h
-  rows-step s l e = of-down (omega arith) (down-more (to-down s) e)
+  rows-step s l e = of-columns (omega arith) (columns-step (to-columns s) e)
 
   pub rows-end : {y : ℕ} {g : List ℕ} → RowsPainted x1 x2 n y p g₀ g → n ≤ y → g ≡ put (box x1 x2 0 n) p g₀
-  rows-end {y} s l = let e : y ≡ n = omega (arith, s .high) in down-to (to-down s) e
+  rows-end {y} s l = let e : y ≡ n = omega (arith, s .high) in columns-end (to-columns s) e

@@ -19,12 +19,12 @@ use Rattle.pixels.proofs.Bits.{bit-and, bit-not, bit-run}
 use Rattle.pixels.proofs.Pictures.{Bytes}
 use Rattle.pixels.proofs.Painting.{put-off, put-region, length-repaint}
 use Rattle.pixels.proofs.Intervals.{within-yes, within-before, within-after, within-true, within-none, within-iff}
-use Rattle.pixels.proofs.Growth.{Down, down-more}
+use Rattle.pixels.proofs.Growth.{ColumnsPainted, columns-step}
 use Rattle.canvas.specs.declared.Rows.{Rows}
 use Rattle.canvas.specs.Canvas.{RowsAre}
 use Rattle.rectangle.specs.declared.Ends.{Ends}
 use Rattle.rectangle.specs.Ends.{endsOf, byteColumns, endsColumns, inRow, inRows, inAll, Apart}
-use Rattle.rectangle.proofs.Rows.{down-all}
+use Rattle.rectangle.proofs.Rows.{columns-all}
 
 -- ---- the masks
 
@@ -88,8 +88,12 @@ module _ (x1 x2 : ℕ) (e : Ends) (some : x1 < x2) (inside : x2 ≤ 240) (ends :
 
 -- ---- the columns painted
 
-pub no-columns : (x1 x2 : ℕ) (c : Bool) (g : List ℕ) → Bytes g → x2 ≤ x1 → g ≡ fill (columns x1 x2) c g
-no-columns x1 x2 c g b h = put-off (columns x1 x2) (plain c) g b (λ u v on. within-iff x1 x2 u 0 0 u (omega arith) (omega arith) ∙ within-none 0 u)
+pub columns-none : (x1 x2 : ℕ) (c : Bool) (g : List ℕ) → Bytes g → x2 ≤ x1 → g ≡ fill (columns x1 x2) c g
+columns-none x1 x2 c g b h = put-off (columns x1 x2) (plain c) g b (λ u v on. within-iff x1 x2 u 0 0 u (omega arith) (omega arith) ∙ within-none 0 u)
+
+-- all whole rows
+whole-rows : (e : Ends) (c : Bool) (g h : List ℕ) → h ≡ fill (inRows (endsColumns e) (length g / 30)) c g → ColumnsPainted (endsColumns e) (length g / 30) (plain c) g h
+whole-rows e c g h p = record { long = ap length p ∙ length-repaint _ g; shows = p }
 
 module _ (x1 x2 : ℕ) (e : Ends) (c : Bool) (g h : List ℕ) (some : x1 < x2) (ends : e ≡ endsOf x1 x2) where
   pub columns-byte : e .first ≡ e .last → h ≡ fill (inAll (byteColumns (e .first) (bitAnd (e .left) (e .right)))) c g → h ≡ fill (columns x1 x2) c g
@@ -102,18 +106,15 @@ module _ (x1 x2 : ℕ) (e : Ends) (c : Bool) (g h : List ℕ) (some : x1 < x2) (
   unfolding endsOf
   columns-ends q p = p ∙ put-region (inAll (endsColumns e)) (columns x1 x2) (plain c) g (λ u v on. rw ends (two-ends x1 x2 some u (rw ends at q)))
 
-  down : h ≡ fill (inRows (endsColumns e) (length g / 30)) c g → Down (endsColumns e) (length g / 30) (plain c) g h
-  down p = record { long = ap length p ∙ length-repaint _ g; shows = p }
-
   -- all rows are whole
   pub columns-whole : e .first < e .last → length g ≤ 30 * (length g / 30) → h ≡ fill (inRows (endsColumns e) (length g / 30)) c g → h ≡ fill (columns x1 x2) c g
-  columns-whole q l p = columns-ends q (down-all (down p) (λ u v on t. omega (arith, on .1)))
+  columns-whole q l p = columns-ends q (columns-all (whole-rows e c g h p) (λ u v on t. omega (arith, on .1)))
 
 -- the last one is broken off
 pub columns-broken : (x1 x2 y : ℕ) (e : Ends) (c : Bool) (g h k : List ℕ) → x1 < x2 → e ≡ endsOf x1 x2 → e .first < e .last → y ≡ length g / 30
     → h ≡ fill (inRows (endsColumns e) (length g / 30)) c g → k ≡ fill (inRow (endsColumns e) y) c h → k ≡ fill (columns x1 x2) c g
 columns-broken x1 x2 y e c g h k some ends q ey p r =
-    columns-ends x1 x2 e c g k some ends q (down-all (down-more (down x1 x2 e c g h some ends p) (r ∙ ap (λ (n : ℕ). fill (inRow (endsColumns e) n) c h) ey)) (λ u v on t. omega (arith, on .1)))
+    columns-ends x1 x2 e c g k some ends q (columns-all (columns-step (whole-rows e c g h p) (r ∙ ap (λ (n : ℕ). fill (inRow (endsColumns e) n) c h) ey)) (λ u v on t. omega (arith, on .1)))
 
 -- of n rows or fewer
 pub columns-box : (x1 x2 n : ℕ) (p : Picture) (g h : List ℕ) → length g ≤ 30 * n → h ≡ put (columns x1 x2) p g → h ≡ put (box x1 x2 0 n) p g

@@ -14,7 +14,7 @@ use Rattle.pixels.proofs.Tests.{iff, and-one, and-two}
 use Rattle.pixels.proofs.Pictures.{Bytes}
 use Rattle.pixels.proofs.Painting.{put-region}
 use Rattle.pixels.proofs.Intervals.{within-yes, within-true}
-use Rattle.pixels.proofs.Growth.{Down, down-none, down-more}
+use Rattle.pixels.proofs.Growth.{ColumnsPainted, columns-start, columns-step}
 use Rattle.canvas.specs.Canvas.{masked}
 use Rattle.rectangle.specs.declared.Ends.{Ends}
 use Rattle.rectangle.specs.Ends.{wholeBytes, byteColumns, endsColumns, inRow, inRows, inAll}
@@ -66,9 +66,9 @@ row-painted e y a b c g g1 g2 g3 h l ea eb p q r =
 -- ---- the rows
 
 -- no row is left
-pub down-all : {f : ℕ → Bool} {y : ℕ} {c : Bool} {g₀ g : List ℕ} → Down f y (plain c) g₀ g → ((u v : ℕ) → On (length g₀) u v → f u ≡ true → v < y)
+pub columns-all : {f : ℕ → Bool} {y : ℕ} {c : Bool} {g₀ g : List ℕ} → ColumnsPainted f y (plain c) g₀ g → ((u v : ℕ) → On (length g₀) u v → f u ≡ true → v < y)
     → g ≡ fill (inAll f) c g₀
-down-all {f} {y} {c} {g₀} s h =
+columns-all {f} {y} {c} {g₀} s h =
     s .shows ∙ put-region (inRows f y) (inAll f) (plain c) g₀ (λ u v on. iff (inRows f y u v) (f u) (and-one (f u) (within 0 y v))
     (λ t. rw (t, within-yes 0 y v (omega arith) (h u v on t))))
 
@@ -78,23 +78,23 @@ down-all {f} {y} {c} {g₀} s h =
 pub record Column (i m at : ℕ) (c : Bool) (g₀ g : List ℕ) : Type 0 where
   pub y : ℕ
   pub place : at ≡ 30 * y + i
-  pub above : Down (byteColumns i m) y (plain c) g₀ g
+  pub above : ColumnsPainted (byteColumns i m) y (plain c) g₀ g
   pub long : length g ≡ length g₀
 
 module _ {i m : ℕ} {c : Bool} {g₀ : List ℕ} where
   pub column-none : Bytes g₀ → Column i m i c g₀ g₀
-  column-none b = record { y = 0; place = omega arith; above = down-none b; long = refl }
+  column-none b = record { y = 0; place = omega arith; above = columns-start b; long = refl }
 
   pub column-more : {at : ℕ} {g h : List ℕ} → i < 30 → Column i m at c g₀ g → h ≡ fill (masked at m) c g → Column i m (at + 30) c g₀ h
   column-more {at} {g} {h} l s e = record { y = s .y + 1; place = omega (arith, s .place); above = all; long = all .long }
     where
-      all : Down (byteColumns i m) (s .y + 1) (plain c) g₀ h
+      all : ColumnsPainted (byteColumns i m) (s .y + 1) (plain c) g₀ h
       all =
-          down-more (s .above) (e ∙ rw (s .place) (put-region (masked (30 * s .y + i) m) (inRow (byteColumns i m) (s .y)) (plain c) g
+          columns-step (s .above) (e ∙ rw (s .place) (put-region (masked (30 * s .y + i) m) (inRow (byteColumns i m) (s .y)) (plain c) g
           (λ u v on. byte-row i m (s .y) (length g) u v l on)))
 
   pub column-all : {at : ℕ} {g : List ℕ} → Column i m at c g₀ g → length g ≤ at → g ≡ fill (inAll (byteColumns i m)) c g₀
   unfolding byteColumns
   column-all {at} {g} s l =
-      down-all (s .above)
+      columns-all (s .above)
       (λ u v on t. let q = eqb-true (u / 8) i (and-one (eqb (u / 8) i) (bitOf m (u % 8)) t) in omega (arith, on .1, s .place, s .long))

@@ -19,9 +19,9 @@ endsOf x1 x2 =
     }
 
 -- a byte of eight pixels in one colour
-unfoldable pub eightOf : Bool → ℕ
-eightOf true = 255
-eightOf false = 0
+unfoldable pub solidByte : Bool → ℕ
+solidByte true = 255
+solidByte false = 0
 
 -- the bytes from number a up to number b
 abbrev pub wholeBytes : ℕ → ℕ → Region

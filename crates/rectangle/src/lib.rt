@@ -14,7 +14,7 @@ ghost use Rattle.pixels.specs.Framebuffer.{fill, width, stride};
 ghost use Rattle.pixels.specs.Regions.{box, columns, rectangle};
 ghost use Rattle.canvas.specs.Canvas.{masked};
 ghost use Rattle.rectangle.specs.Frame.{frame};
-ghost use Rattle.rectangle.specs.Ends.{eightOf, endsOf, wholeBytes, byteColumns, endsColumns, inRow, inRows, inAll, Apart, Covered};
+ghost use Rattle.rectangle.specs.Ends.{solidByte, endsOf, wholeBytes, byteColumns, endsColumns, inRow, inRows, inAll, Apart, Covered};
 
 // Columns of a row by its bytes: the first and the last byte that have any of them, and the mask of those that each has.
 struct Ends {
@@ -37,9 +37,9 @@ fn ends_of(x1: u16, x2: u16) -> Ends
     }
 }
 
-// A byte of eight pixels.
-fn eight(c: Colour) -> u8
-    ensures { λ r. ⌜ r ≡ eightOf (c .black) ⌝ }
+// A byte of eight pixels in one colour.
+fn solid_byte(c: Colour) -> u8
+    ensures { λ r. ⌜ r ≡ solidByte (c .black) ⌝ }
 {
     if c.black { 255 } else { 0 }
 }
@@ -57,7 +57,7 @@ fn fill_bytes(rows: &mut [u8], from: usize, to: usize, c: Colour)
     requires { ⌜ to ≤ length (now rows) ⌝ }
     ensures { λ _. ⌜ now (rows .exit) ≡ fill (wholeBytes from to) (c .black) (now (rows .entry)) ⌝ }
 {
-    let byte = eight(c);
+    let byte = solid_byte(c);
     let mut i = from;
     while i < to {
         rows[i] = byte;
@@ -91,8 +91,8 @@ fn fill_rows(rows: &mut [u8], ends: Ends, run: usize, c: Colour)
     }
 }
 
-// The same with the longest runs. Each length is written out, for a run whose length the compiler knows is one wide store; of another it
-// makes a call of memset in every row.
+// The same with the longest runs. Each length is written out: where the compiler knows it, it can make a store of a run, and need not call
+// memset in every row.
 fn fill_whole_rows(rows: &mut [u8], ends: Ends, c: Colour)
     requires { ⌜ Apart ends ⌝ }
     ensures { λ _. ⌜ now (rows .exit) ≡ fill (inRows (endsColumns ends) (length (now (rows .entry)) / stride)) (c .black) (now (rows .entry)) ⌝ }

@@ -10,8 +10,8 @@ Inv-loop rows₀ from to byte i₀ rows i = Run from to i byte rows₀ rows
 abbrev μ-loop : tie.MeasureT-loop
 μ-loop rows₀ from to byte i₀ rows i = to - i
 
-eight-requires : tie.Need-eight-requires Inv-loop μ-loop
-eight-requires c κs = search needs
+solid-byte-requires : tie.Need-solid-byte-requires Inv-loop μ-loop
+solid-byte-requires c κs = search needs
 
 loop-holds : tie.Need-loop-holds Inv-loop μ-loop
 loop-holds c = run-none (λ i. c .before .slice-known .given i .fits)
@@ -40,7 +40,7 @@ fill-bytes-spec =
     (tie.spec
     Inv-loop
     μ-loop
-    eight-requires
+    solid-byte-requires
     loop-holds
     slice-write-rows
     add-i

@@ -1,10 +1,10 @@
-use Rattle.rectangle.proofs.Columns.{first-inside, ends-apart, no-columns, columns-byte, columns-whole, columns-broken}
+use Rattle.rectangle.proofs.Columns.{first-inside, ends-apart, columns-none, columns-byte, columns-whole, columns-broken}
 use borrow.Author.Needs.{needs}
 use Rattle.rectangle.proofs.fill_columns.Statement.{statement}
 use Rattle.rectangle.proofs.fill_columns.Tie as tie
 
 returns : tie.Need-returns
-returns c = no-columns _ _ _ _ (λ i. c .before .slice-known .given i .fits) (search needs)
+returns c = columns-none _ _ _ _ (λ i. c .before .slice-known .given i .fits) (search needs)
 
 ends-of-requires : tie.Need-ends-of-requires
 ends-of-requires c κs = search needs
