@@ -43,22 +43,27 @@ within-more a b n h =
       ])
     ]
 
--- an interval and the one behind it
-pub within-join : (a b c n : ℕ) → a ≤ b → b ≤ c → (within a b n || within b c n) ≡ within a c n
-within-join a b c n h k =
-    elim (decLt n b) [
-      | yes l ↦ rw (within-before b c n l) (or-false (within a b n) ∙ iff (within a b n) (within a c n)
-          (λ e. within-yes a c n (within-true a b n e .0) (omega arith)) (λ e. within-yes a b n (within-true a c n e .0) l))
-      | no l ↦ rw (within-after a b n (omega arith)) (iff (within b c n) (within a c n)
-          (λ e. within-yes a c n (omega arith) (within-true b c n e .1)) (λ e. within-yes b c n (omega arith) (within-true a c n e .1)))
-    ]
-
 -- two intervals that hold the same of two numbers
 pub within-iff : (a b n a′ b′ n′ : ℕ) → (a ≤ n → n < b → (a′ ≤ n′) × (n′ < b′)) → (a′ ≤ n′ → n′ < b′ → (a ≤ n) × (n < b)) → within a b n ≡ within a′ b′ n′
 within-iff a b n a′ b′ n′ f h =
     iff (within a b n) (within a′ b′ n′)
     (λ e. let t = within-true a b n e in let u = f (t .0) (t .1) in within-yes a′ b′ n′ (u .0) (u .1))
     (λ e. let t = within-true a′ b′ n′ e in let u = h (t .0) (t .1) in within-yes a b n (u .0) (u .1))
+
+-- an interval and one that begins in it, or at its end
+pub within-over : (a b i j n : ℕ) → a ≤ i → i ≤ b → b ≤ j → (within a b n || within i j n) ≡ within a j n
+within-over a b i j n h k l =
+    elim (decLt n b) [
+      | yes p ↦ (elim (decLt n i) [
+        | yes q ↦ rw (within-before i j n q, or-false (within a b n)) (within-iff a b n a j n (omega arith) (omega arith))
+        | no q ↦ rw (within-yes a b n (omega arith) p, within-yes a j n (omega arith) (omega arith))
+      ])
+      | no p ↦ rw (within-after a b n (omega arith)) (within-iff i j n a j n (omega arith) (omega arith))
+    ]
+
+-- an interval and the one behind it
+pub within-join : (a b c n : ℕ) → a ≤ b → b ≤ c → (within a b n || within b c n) ≡ within a c n
+within-join a b c n h k = within-over a b b c n h (omega arith) k
 
 -- one more in front
 pub within-less : (a b n : ℕ) → a < b → (within (a + 1) b n || eqb n a) ≡ within a b n

@@ -1,21 +1,20 @@
 -- The columns that two masks and the bytes between them have.
 -- Assumes nothing.
 use mathlib.Core.Path.{_≡_, refl, sym, ap, _∙_}
-use mathlib.Core.Bool.{Bool, false, not, _&&_, _||_, and-true, or-false}
+use mathlib.Core.Bool.{Bool, false, _&&_, _||_, and-true, or-false}
 use mathlib.Core.List.{List}
 use Prim.Native.Nat.{ℕ, _+_, _-_, _*_, _/_, _%_, _^_, _<_, _≤_, min}
 use native.Mathlib.Omega.{arith}
-use native.Mathlib.Decide.{decLt, ℕ-discrete}
-use lib.Dec.{eqb, leb, ltb}
+use native.Mathlib.Decide.{ℕ-discrete}
+use lib.Dec.{eqb, leb}
 use lib.Bits.{bitAnd}
 use lib.ListN.{length}
-use lib.Pow.{shr-le}
-use borrow.Author.Tests.{eq-eqb, ne-eqb, eqb-true, le-leb, lt-leb, leb-true, lt-ltb, le-ltb}
+use borrow.Author.Tests.{eq-eqb, ne-eqb, eqb-true, le-leb, leb-true}
 use borrow.Rule.Slice.PartMut.{midOf, mid-len}
 use Rattle.pixels.specs.Framebuffer.{Picture, bitOf, fill, put, plain}
 use Rattle.pixels.specs.Regions.{within, box, columns}
 use Rattle.pixels.proofs.Tests.{agree, iff, and-one, and-two}
-use Rattle.pixels.proofs.Bits.{bit-and, bit-not, bit-run}
+use Rattle.pixels.proofs.Bits.{bit-and, bit-run}
 use Rattle.pixels.proofs.Pictures.{Bytes}
 use Rattle.pixels.proofs.Painting.{put-off, put-region, length-repaint}
 use Rattle.pixels.proofs.Intervals.{within-yes, within-before, within-after, within-true, within-none, within-iff}
@@ -31,17 +30,9 @@ use Rattle.rectangle.proofs.Rows.{columns-all}
 left-bit : (x u : ℕ) → bitOf (255 / 2 ^ (x % 8)) (u % 8) ≡ leb (x % 8) (u % 8)
 left-bit x u = bit-run (x % 8) (u % 8) (omega arith) (omega arith)
 
-behind : (k j : ℕ) → k < 8 → j < 8 → bitOf (127 / 2 ^ k) j ≡ ltb k j
-unfolding bitOf
-behind = agree 8 8 (λ k j. bitOf (127 / 2 ^ k) j) (λ k j. ltb k j) refl
-
-not-behind : (k j : ℕ) → not (ltb k j) ≡ leb j k
-not-behind k j = elim (decLt k j) [ yes l ↦ rw (lt-ltb k j l, lt-leb j k l) | no l ↦ rw (le-ltb k j (omega arith), le-leb j k (omega arith)) ]
-
 right-bit : (x u : ℕ) → bitOf (255 - 127 / 2 ^ (x % 8)) (u % 8) ≡ leb (u % 8) (x % 8)
-right-bit x u =
-    bit-not (127 / 2 ^ (x % 8)) (u % 8) (omega (arith, shr-le 127 (x % 8))) (omega arith)
-    ∙ rw (behind (x % 8) (u % 8) (omega arith) (omega arith)) (not-behind (x % 8) (u % 8))
+unfolding bitOf
+right-bit x u = agree 8 8 (λ k j. bitOf (255 - 127 / 2 ^ k) j) (λ k j. leb j k) refl (x % 8) (u % 8) (omega arith) (omega arith)
 
 -- ---- columns x1 up to x2
 

@@ -1,20 +1,18 @@
 -- Whole bytes painted one after another.
 -- Assumes nothing.
 use mathlib.Core.Path.{_≡_, refl, sym, ap, subst, _∙_}
-use mathlib.Core.Bool.{Bool, true, false, cond, _||_, and-true, or-false}
+use mathlib.Core.Bool.{Bool, true, false, cond, _||_, and-true}
 use mathlib.Core.List.{List}
 use Prim.Native.Nat.{ℕ, _+_, _%_, _<_, _≤_, max, min}
 use native.Mathlib.Omega.{arith}
-use native.Mathlib.Decide.{decLt}
 use lib.Dec.{eqb}
 use lib.ListN.{length, getD, set, length-set}
 use borrow.Author.Tests.{le-leb}
 use Rattle.pixels.specs.Framebuffer.{Region, bitOf, cell, fill, plain}
-use Rattle.pixels.specs.Regions.{within}
 use Rattle.pixels.proofs.Bits.{byte-is, bit-run, bit-zero}
 use Rattle.pixels.proofs.Pictures.{Bytes}
 use Rattle.pixels.proofs.Painting.{put-off, put-put, put-region, bytes-repaint}
-use Rattle.pixels.proofs.Intervals.{within-yes, within-before, within-after, within-none, within-more, within-iff, within-cut}
+use Rattle.pixels.proofs.Intervals.{within-none, within-more, within-over, within-iff, within-cut}
 use Rattle.canvas.specs.Canvas.{masked, paintedOf}
 use Rattle.canvas.proofs.Strokes.{stamp-on}
 use Rattle.rectangle.specs.Ends.{solidByte, wholeBytes}
@@ -82,16 +80,6 @@ module _ {a e n : ℕ} {g₀ : List ℕ} where
       s .shows c q ∙ put-region (wholeBytes a i) (wholeBytes a e) (plain c) g₀ (λ u v on. within-iff a i (cell u v) a e (cell u v) (omega (arith, s .high)) (omega (arith, s .high)))
 
 -- two runs of which the second begins in the first, or behind it
-within-over : (a b i j n : ℕ) → a ≤ i → i ≤ b → b ≤ j → (within a b n || within i j n) ≡ within a j n
-within-over a b i j n h k l =
-    elim (decLt n b) [
-      | yes p ↦ (elim (decLt n i) [
-        | yes q ↦ rw (within-before i j n q, or-false (within a b n)) (within-iff a b n a j n (omega arith) (omega arith))
-        | no q ↦ rw (within-yes a b n (omega arith) p, within-yes a j n (omega arith) (omega arith))
-      ])
-      | no p ↦ rw (within-after a b n (omega arith)) (within-iff i j n a j n (omega arith) (omega arith))
-    ]
-
 pub two-runs : (a b i j : ℕ) (c : Bool) (g g1 g2 : List ℕ) → a ≤ i → i ≤ b → b ≤ j → g1 ≡ fill (wholeBytes a b) c g → g2 ≡ fill (wholeBytes i j) c g1
     → g2 ≡ fill (wholeBytes a j) c g
 two-runs a b i j c g g1 g2 h k l p q =
