@@ -1,4 +1,5 @@
 // Bars of a bar graph: a write paints between the old value and the new one, and is lent only the rows of its bar.
+#![tactic(auto)]
 ghost use Rattle.std.specs.Prelude.{◌≡◌, ◌<◌, ◌-◌, max};
 ghost use Rattle.pixels.specs.Framebuffer.{fill};
 ghost use Rattle.bar_graph.specs.Bars.{vertical, from_far, length_of, held_to, stripe, write_of, written_bar};
@@ -18,7 +19,7 @@ pub const FROM_TOP: u8 = 2;
 pub const FROM_RIGHT: u8 = 3;
 
 // Both corners lie in the bar. Any bar may be written, whatever its numbers are.
-#[derive(Drop)]
+#[derive(Clone, Copy)]
 pub struct Bar {
     pub kind: u8,
     pub x1: u8,
@@ -29,7 +30,7 @@ pub struct Bar {
 }
 
 // Rows or columns from one up to, and not with, another.
-#[derive(Drop)]
+#[derive(Clone, Copy)]
 struct Interval {
     from: u16,
     to: u16,

@@ -1,5 +1,6 @@
 // Bitmaps: packed ones (glyphs, saved bitmaps) and data in line. What lies beyond the framebuffer is clipped.
 // Up to eight columns of a row lie in two bytes, which are painted at once.
+#![tactic(auto)]
 ghost use Rattle.std.specs.Prelude.{◌≡◌, ◌+◌, ◌*◌, ◌<◌, ◌≤◌, min, length};
 ghost use Rattle.pixels.specs.Framebuffer.{put, width};
 ghost use Rattle.pixels.specs.Regions.{span, box};
@@ -179,7 +180,7 @@ pub fn paint_packed(framebuffer: &mut [u8], x: u16, y: u8, w: u8, h: u8, bits: &
     }
 }
 
-#[derive(Drop)]
+#[derive(Clone, Copy)]
 struct Place {
     x: u16,
     y: u32,

@@ -1,4 +1,5 @@
 // Colours, the sizes of the framebuffer, and the painting and reading of single pixels.
+#![tactic(auto)]
 ghost use Rattle.std.specs.Prelude.{◌≡◌, min};
 ghost use Rattle.pixels.specs.Framebuffer.{cell, fill, black, row_start};
 ghost use Rattle.pixels.specs.Regions.{point};
@@ -36,7 +37,7 @@ pub fn length_for(height: u8) -> usize
     STRIDE * (height as usize)
 }
 
-#[derive(Drop)]
+#[derive(Clone, Copy)]
 pub struct Colour {
     pub black: bool,
 }
@@ -104,7 +105,7 @@ pub fn is_black(framebuffer: &[u8], x: u16, y: u16) -> bool
 }
 
 // Rows of a framebuffer to lend on: their first byte, the byte behind them, and how many they are.
-#[derive(Drop)]
+#[derive(Clone, Copy)]
 pub struct Rows {
     pub from: usize,
     pub to: usize,

@@ -1,4 +1,5 @@
 // Characters: where each goes, and what is drawn there. One that the font lacks is a black box, or is ignored.
+#![tactic(auto)]
 ghost use Rattle.std.specs.Prelude.{◌≡◌, ◌&&◌, ◌+◌, ◌<◌, ◌≤◌, leb};
 ghost use Rattle.builtin_font.specs.Table.{table};
 ghost use Rattle.state.specs.State.{with_text};
@@ -27,7 +28,7 @@ const LINE_FEED: u8 = 10;
 const BACKSPACE: u8 = 8;
 
 // Where a character goes, and by how many rows the framebuffer moves up first.
-#[derive(Drop)]
+#[derive(Clone, Copy)]
 enum Place {
     At { x: u16, y: u16, up: u16 },
     Nowhere,

@@ -1,4 +1,5 @@
 // The directory of the store: the records in its first 256 bytes, read. Any bytes may stand there, and any number of them.
+#![tactic(auto)]
 ghost use Rattle.std.specs.Prelude.{◌≡◌, true, false, ◌&&◌, ◌+◌, ◌*◌, ◌%◌, ◌≤◌, ◌<◌, min, leb, length, get_or, take, drop};
 ghost use Rattle.directory.specs.Directory.{is_newer, length_of, sort_of, step_at, pair_at, entry_at, entries, totals_of, is_file, find_of, is_fair, zeros_from, broken_survey, survey_of};
 
@@ -35,7 +36,7 @@ pub const BUILT_IN_FONT: u16 = 1;
 // The bytes of a table with a bit for each of the 1,024 numbers of each of the two sorts.
 const SEEN: usize = 256;
 
-#[derive(Drop)]
+#[derive(Clone, Copy)]
 pub struct Entry {
     pub kind: u8,
     pub number: u16,
@@ -43,21 +44,21 @@ pub struct Entry {
 }
 
 // The byte behind the last record, and how many bytes the files take.
-#[derive(Drop)]
+#[derive(Clone, Copy)]
 pub struct Totals {
     pub end: usize,
     pub used: usize,
 }
 
 // Whether a directory keeps its rules, and what it comes to if it does.
-#[derive(Drop)]
+#[derive(Clone, Copy)]
 pub struct Surveyed {
     pub valid: bool,
     pub totals: Totals,
 }
 
 // The place of a record and of its file.
-#[derive(Drop)]
+#[derive(Clone, Copy)]
 pub enum Found {
     At {
         record: usize,

@@ -1,4 +1,5 @@
 // The five calls of a board: start, feed, time, arrive, take. Any bytes, of any length, may be lent to them.
+#![tactic(auto)]
 ghost use Rattle.std.specs.Prelude.{◌≡◌, length};
 ghost use Rattle.calls.specs.Memory.{memory};
 ghost use Rattle.calls.specs.Start.{started, start_of, emptied};

@@ -1,4 +1,5 @@
 // What comes in over lent memory, a piece of the stream or time: checked, obeyed as far as the reply room goes, and written back.
+#![tactic(auto)]
 ghost use Rattle.std.specs.Prelude.{◌≡◌, ◌+◌, ◌≤◌, length, drop};
 ghost use Rattle.std.proofs.lemmas.List.Edits.{sets};
 ghost use Rattle.directory.specs.Directory.{entries, totals_of};
@@ -44,7 +45,7 @@ pub const STORE_MOST: usize = 32768;
 // Free reply bytes that a byte needs.
 pub const REPLY_ROOM: usize = 2;
 
-#[derive(Drop)]
+#[derive(Clone, Copy)]
 struct Progress {
     port: Port,
     answer: u32,

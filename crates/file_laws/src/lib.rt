@@ -2,3 +2,4 @@
 //
 // A valid store is its entries written out, and then the file area. A record more, a file less, none at all: each is such a store again,
 // every other file keeps its bytes, and what is freed can be used at once.
+#![tactic(auto)]

@@ -1,4 +1,5 @@
 // Fonts and bitmaps as they lie in a file: checked whole, and read. Any bytes may be lent, and any number of them.
+#![tactic(auto)]
 ghost use Rattle.std.specs.Prelude.{◌≡◌, ◌≤◌, ◌<◌};
 ghost use Rattle.fonts.specs.Checks.{check_of, between};
 ghost use Rattle.fonts.specs.Bitmaps.{packed_bytes, bitmap_width, bitmap_height, is_bitmap};
@@ -17,14 +18,14 @@ pub const MAX_WIDTH: u8 = 240;
 // A bitmap: width, height, then its rows.
 pub const BITMAP_HEADER: usize = 2;
 
-#[derive(Drop)]
+#[derive(Clone, Copy)]
 pub enum Check {
     Good,
     Malformed,
 }
 
 // Where the rows of a character are in the file, and how wide it is.
-#[derive(Drop)]
+#[derive(Clone, Copy)]
 pub struct Entry {
     pub offset: usize,
     pub width: u8,

@@ -1,4 +1,5 @@
 // Draws small cases of every painter and prints them as rows of text: '#' is black, '.' white.
+#![tactic(auto)]
 use bar_graph::{Bar, write_bar};
 use bitmap::{paint_inline, paint_packed};
 use canvas::{Colour, LOW_LENGTH, is_black, plot};

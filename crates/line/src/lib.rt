@@ -2,6 +2,7 @@
 //
 // One axis, the major one, takes a step at every pixel; the other, the minor one, steps where the signed error term says so.
 // Nothing in the loop divides. specs/Line.antt has the rule by division, and the proofs show that both are the same line.
+#![tactic(auto)]
 ghost use Rattle.std.specs.Prelude.{◌≡◌, ◌≤◌};
 ghost use Rattle.pixels.specs.Framebuffer.{fill};
 ghost use Rattle.pixels.specs.Regions.{point};
@@ -11,7 +12,7 @@ ghost use Rattle.line.specs.Walk.{direction_of, WalkerInRange, SlopeInRange, ste
 use canvas::Colour;
 
 // Where the line has come to on each axis, and the error term: a step that brings it to 0 or more steps the minor axis, too.
-#[derive(Drop)]
+#[derive(Clone, Copy)]
 struct Walker {
     major: i32,
     minor: i32,
@@ -19,7 +20,7 @@ struct Walker {
 }
 
 // What stays the same along a line: each axis's signed step, and twice the distance on the minor axis (the rise) and on the major (the run).
-#[derive(Drop)]
+#[derive(Clone, Copy)]
 struct Slope {
     major_step: i32,
     minor_step: i32,

@@ -1,5 +1,6 @@
 // Obeys the bytes of the standard input on a fresh display, and lists what they leave: black runs of each row, refusals, replies.
 // The display has 128 rows where the first argument is 128, and else 64.
+#![tactic(auto)]
 ghost use Rattle.std.specs.Prelude.{◌≤◌, length};
 
 use canvas::{LOW_HEIGHT, LOW_LENGTH, TALL_HEIGHT, TALL_LENGTH, WIDTH, is_black};
@@ -150,7 +151,7 @@ fn feed(
     keep(shown, count, &replies[..replied])
 }
 
-#[derive(Drop)]
+#[derive(Clone, Copy)]
 struct Turn {
     more: bool,
     count: usize,

@@ -1,11 +1,12 @@
 // An opened font: the part of the store that its file occupies, with its height and its first character. A reference in a struct
 // is proved by hand, so two thin functions have one, `open` and `lookup`; callers use `glyph_of`, which has plain parameters.
+#![tactic(auto)]
 ghost use Rattle.std.specs.Prelude.{◌≡◌};
 ghost use Rattle.opened_font.specs.Glyphs.{font_of, glyph_in, glyph_of};
 
 use fonts::{entry_at, first, height, last};
 
-#[derive(Drop)]
+#[derive(Clone, Copy)]
 pub struct Font<'a> {
     pub file: &'a [u8],
     pub height: u8,
@@ -13,7 +14,7 @@ pub struct Font<'a> {
 }
 
 // Where the rows of a character are in the file, and its box.
-#[derive(Drop)]
+#[derive(Clone, Copy)]
 pub enum Glyph {
     At {
         offset: usize,

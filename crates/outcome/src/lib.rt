@@ -1,4 +1,5 @@
 // What comes of a byte: the next port, and the bytes to send. A refusal alters nothing of the port but what it names.
+#![tactic(auto)]
 ghost use Rattle.std.specs.Prelude.{◌≡◌};
 ghost use Rattle.state.specs.State.{with_text};
 ghost use Rattle.outcome.specs.Outcome.{one_byte, two_bytes, in_phase_of, refused_port, done_of, refused_of, sending_of};
@@ -6,14 +7,14 @@ ghost use Rattle.outcome.specs.Outcome.{one_byte, two_bytes, in_phase_of, refuse
 use state::{ARGUMENTS, Line, Phase, Port, Refusals, Text};
 
 // At most two bytes; `count` of them are sent, the first one first.
-#[derive(Drop)]
+#[derive(Clone, Copy)]
 pub struct Reply {
     pub count: u8,
     pub first: u8,
     pub second: u8,
 }
 
-#[derive(Drop)]
+#[derive(Clone, Copy)]
 pub struct Outcome {
     pub port: Port,
     pub reply: Reply,

@@ -1,4 +1,5 @@
 // A queue of bytes: a ring buffer with a held count, a watermark and a count of lost bytes, and its record.
+#![tactic(auto)]
 ghost use Rattle.std.specs.Prelude.{◌≡◌, ◌<◌, ◌≤◌};
 ghost use Rattle.queue.specs.Watermarks.{high_water, low_water, while_on};
 ghost use Rattle.queue.specs.Queue.{stored, counted, oldest, advanced};
@@ -37,7 +38,7 @@ pub const LOST_HIGH: usize = 84;
 pub const RECORD: usize = 85;
 
 // Flow control: bytes free and bytes held at which a signal goes out.
-#[derive(Drop)]
+#[derive(Clone, Copy)]
 pub struct Flow {
     pub on: bool,
     pub full: u8,
@@ -45,7 +46,7 @@ pub struct Flow {
 }
 
 // An arrival hands out no byte.
-#[derive(Drop)]
+#[derive(Clone, Copy)]
 pub struct Response {
     pub answer: u8,
     pub byte: u8,
@@ -53,7 +54,7 @@ pub struct Response {
 }
 
 // The signal that a change sends, and the mark after it.
-#[derive(Drop)]
+#[derive(Clone, Copy)]
 struct Watermark {
     signal: u8,
     mark: bool,

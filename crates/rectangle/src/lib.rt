@@ -1,5 +1,6 @@
 // Rectangles, solid and framed, painted by the byte: whole bytes between the left and right ends, and at either end the pixels under a
 // mask. A rectangle beyond the framebuffer is clipped, one with its corners out of order is empty.
+#![tactic(auto)]
 ghost use Rattle.std.specs.Prelude.{◌≡◌, ◌+◌, ◌*◌, ◌/◌, ◌<◌, ◌≤◌, min, length};
 ghost use Rattle.pixels.specs.Framebuffer.{fill, width, stride};
 ghost use Rattle.pixels.specs.Regions.{box, columns, rectangle};
@@ -10,7 +11,7 @@ ghost use Rattle.rectangle.specs.Ends.{solid_byte, ends_of, whole_bytes, byte_co
 use canvas::{Colour, STRIDE, WIDTH, least, painted, rows_between, stamp};
 
 // Columns of a row by its bytes: the first and the last byte that have any of them, and the mask of those that each has.
-#[derive(Drop)]
+#[derive(Clone, Copy)]
 struct Ends {
     first: usize,
     last: usize,

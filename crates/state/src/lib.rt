@@ -1,4 +1,5 @@
 // What the display remembers between bytes, by value: what the board chose at start, what belongs to one serial line (Port) and what belongs to the display (Panel).
+#![tactic(auto)]
 mod checks;
 mod initial;
 
@@ -22,7 +23,7 @@ pub const NEWER: u8 = 2;
 // The milliseconds after which an upload is dropped.
 pub const PATIENCE: u16 = 2100;
 
-#[derive(Drop)]
+#[derive(Clone, Copy)]
 pub enum Command {
     Unknown,
     Clear,
@@ -101,7 +102,7 @@ pub fn command_of(code: u8) -> Command
 }
 
 // How many fixed arguments a command has in each edition.
-#[derive(Drop)]
+#[derive(Clone, Copy)]
 pub struct Counts {
     pub older: u8,
     pub newer: u8,
@@ -158,7 +159,7 @@ pub fn arguments_of(edition: u8, command: Command) -> u8
 }
 
 // What the line is in the middle of; at most one thing, since it is one of these.
-#[derive(Drop)]
+#[derive(Clone, Copy)]
 pub enum Phase {
     Idle,
     // 254 has come.
@@ -192,7 +193,7 @@ pub enum Phase {
 // Fixed arguments of a command, at most.
 pub const ARGUMENTS: usize = 6;
 
-#[derive(Drop)]
+#[derive(Clone, Copy)]
 pub struct Text {
     pub font: u16,
     pub x: u16,
@@ -207,27 +208,27 @@ pub struct Text {
 }
 
 // The drawing colour, and the point that the last line ended at.
-#[derive(Drop)]
+#[derive(Clone, Copy)]
 pub struct Drawing {
     pub colour: Colour,
     pub x: u8,
     pub y: u8,
 }
 
-#[derive(Drop)]
+#[derive(Clone, Copy)]
 pub struct Refusals {
     pub count: u16,
     pub last: u8,
 }
 
 // What the line is in the middle of, with the arguments gathered so far.
-#[derive(Drop)]
+#[derive(Clone, Copy)]
 pub struct Line {
     pub phase: Phase,
     pub args: [u8; ARGUMENTS],
 }
 
-#[derive(Drop)]
+#[derive(Clone, Copy)]
 pub struct Port {
     pub line: Line,
     pub text: Text,
@@ -241,13 +242,13 @@ pub const BARS: usize = 16;
 pub const STRIPS: usize = 8;
 
 // `on` where it is set up.
-#[derive(Drop)]
+#[derive(Clone, Copy)]
 pub struct BarSlot {
     pub on: bool,
     pub bar: Bar,
 }
 
-#[derive(Drop)]
+#[derive(Clone, Copy)]
 pub struct Strip {
     pub on: bool,
     pub x1: u8,
@@ -256,21 +257,21 @@ pub struct Strip {
     pub y2: u8,
 }
 
-#[derive(Drop)]
+#[derive(Clone, Copy)]
 pub struct Serial {
     pub on: bool,
     pub a: u8,
     pub b: u8,
 }
 
-#[derive(Drop)]
+#[derive(Clone, Copy)]
 pub struct Backlight {
     pub on: bool,
     pub minutes: u8,
 }
 
 // `used` is the room of the file area that the stored files take: the sum of their sizes.
-#[derive(Drop)]
+#[derive(Clone, Copy)]
 pub struct Panel {
     pub bars: [BarSlot; BARS],
     pub strips: [Strip; STRIPS],
@@ -281,13 +282,13 @@ pub struct Panel {
 }
 
 // What the board chose at start: the framebuffer's rows, and the edition of the upload protocol.
-#[derive(Drop)]
+#[derive(Clone, Copy)]
 pub struct Config {
     pub height: u8,
     pub edition: u8,
 }
 
-#[derive(Drop)]
+#[derive(Clone, Copy)]
 pub struct State {
     pub config: Config,
     pub port: Port,

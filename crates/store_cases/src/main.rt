@@ -1,4 +1,5 @@
 // Small cases of the store, of fonts and bitmaps in it, and of the queue, printed as lines of text.
+#![tactic(auto)]
 ghost use Rattle.std.specs.Prelude.{◌≡◌, length};
 
 use directory::{

@@ -1,5 +1,6 @@
 // Strip charts: the pixels of a rectangle moved by one column, a byte of a row at a time. It is clipped; with its corners out of order it
 // is empty.
+#![tactic(auto)]
 ghost use Rattle.std.specs.Prelude.{◌≡◌, true, ◌≤◌, ◌<◌, max};
 ghost use Rattle.pixels.specs.Framebuffer.{width};
 ghost use Rattle.strip_chart.specs.Strips.{entering, source, shifted_strip};
@@ -31,7 +32,7 @@ fn source(right: bool, x: u16) -> u16
 }
 
 // Columns from the first up to, and not with, the second.
-#[derive(Drop)]
+#[derive(Clone, Copy)]
 struct Part {
     from: u16,
     to: u16,

@@ -1,4 +1,5 @@
 // Text: its settings, the text point and the current font. Characters are drawn in the crate above.
+#![tactic(auto)]
 ghost use Rattle.std.specs.Prelude.{◌≡◌, [], ◌∷◌, ◌+◌, ◌*◌, ◌-◌, ◌<◌, ◌≤◌};
 ghost use Rattle.rules.specs.World.{put_text, quietly};
 ghost use Rattle.rules.specs.Text.{at_point, home, with_wrap, with_scroll, with_metrics, choose_font, set_place};
@@ -14,7 +15,7 @@ use refusals::{MALFORMED_FILE, NO_SUCH_FILE, NUMBER_OUT_OF_RANGE, OUT_OF_BOUNDS}
 use state::Port;
 
 // Where a font lies.
-#[derive(Drop)]
+#[derive(Clone, Copy)]
 pub enum Source {
     BuiltIn,
     Stored { start: usize, size: usize },

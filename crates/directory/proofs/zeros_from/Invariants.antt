@@ -1,0 +1,9 @@
+use Prim.Native.Nat.{◌-◌}
+use Rattle.directory.proofs.Walks.{Zeroing}
+use Rattle.directory.proofs.zeros_from.Given as goal
+
+abbrev pub invariant-loop-p : goal.invariant-loop-p
+invariant-loop-p l = Zeroing l.store l.from l.p l.all
+
+abbrev pub decreases-loop-p : goal.decreases-loop-p
+decreases-loop-p l = 256 - l.p

@@ -1,0 +1,5 @@
+use Rattle.storage.proofs.Laws.{telling_is}
+use Rattle.storage.proofs.telling.Goals as goal
+
+pub returns : goal.returns
+returns c = telling_is _ _ _ _ _ c.refuse.ensures c.one_byte_lem.ensures c.sending.ensures
