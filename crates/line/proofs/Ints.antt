@@ -72,7 +72,7 @@ abbrev pub back : ℤ → ℤ
 back z = to_z w32 (of_z w32 z)
 
 pub back_is : (z : ℤ) → mag z < 1000000 → back z ≡ z
-back_is z h = to_z-of_z (record { sfits = omega arith })
+back_is z h = to_z-of_z {w = w32} (record { sfits = omega arith })
 
 -- two numbers below half a million, added and subtracted
 module _ (x y : ℤ) (hx : mag x < 500000) (hy : mag y < 500000) where
