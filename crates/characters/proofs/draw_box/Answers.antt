@@ -12,13 +12,13 @@ pub returns-in_default : goal.returns-in_default
 returns-in_default c = obeys_refused 29 c.refused.ensures (λ h g s p. ap (λ (x : List ℕ). held h x s p c.args.port) (moved_none _ _ _ (search rules) c.make_room-place.ensures.1)) (λ h g s p. drawn_29 _ _ _ _ _ _ _ c.make_room-place.ensures.0 (search rules))
 
 pub overflow_add-x : goal.overflow_add-x
-overflow_add-x c = omega (arith, (fits _ _ _ _ _ _ _ _ c.make_room-place.ensures.0 c.place-1.given.1).right, c.word.ensures)
+overflow_add-x c = omega (arith, (fits _ _ _ _ _ _ _ _ c.make_room-place.ensures.0 c.in-At.is).right, c.word.ensures)
 
 pub overflow_add-y : goal.overflow_add-y
-overflow_add-y c = omega (arith, (fits _ _ _ _ _ _ _ _ c.make_room-place.ensures.0 c.place-1.given.1).below, c.word-2.ensures)
+overflow_add-y c = omega (arith, (fits _ _ _ _ _ _ _ _ c.make_room-place.ensures.0 c.in-At.is).below, c.word-2.ensures)
 
 pub move_on-requires : goal.move_on-requires
-move_on-requires c = let f = fits _ _ _ _ _ _ _ _ c.make_room-place.ensures.0 c.place-1.given.1 in (f.right, omega (arith, f.below))
+move_on-requires c = let f = fits _ _ _ _ _ _ _ _ c.make_room-place.ensures.0 c.in-At.is in (f.right, omega (arith, f.below))
 
 pub returns : goal.returns
-returns c = obeys_done _ c.move_on.ensures (λ p. refl) (λ h g s p. drawn_done _ _ _ _ _ _ _ c.make_room-place.ensures.0 _ _ _ _ _ c.place-1.given.1 c.make_room-place.ensures.1 (box_filled _ _ _ _ _ _ _ _ c.word.ensures.0 c.word-2.ensures.0 c.fill_box.ensures))
+returns c = obeys_done _ c.move_on.ensures (λ p. refl) (λ h g s p. drawn_done _ _ _ _ _ _ _ c.make_room-place.ensures.0 _ _ _ _ _ c.in-At.is c.make_room-place.ensures.1 (box_filled _ _ _ _ _ _ _ _ c.word.ensures.0 c.word-2.ensures.0 c.fill_box.ensures))

@@ -6,4 +6,4 @@ pub returns-in_default : goal.returns-in_default
 returns-in_default c = room_none _ _ _ c.place_for-place.ensures (search rules)
 
 pub returns : goal.returns
-returns c = room_made _ _ _ _ _ _ _ c.place_for-place.ensures c.place-1.given.1 c.move_up.ensures
+returns c = room_made _ _ _ _ _ _ _ c.place_for-place.ensures c.in-At.is c.move_up.ensures

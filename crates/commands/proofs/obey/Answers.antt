@@ -23,7 +23,7 @@ returns-in-SetPoint c = obeys_command c.args.command SetPoint _ (search rules) c
 
 pub returns-in-SetPlace : goal.returns-in-SetPlace
 unfolding obey
-returns-in-SetPlace c = obeys_command c.args.command SetPlace _ (search rules) c.set_place_lem.ensures (λ h g s p. refl) (λ h g s q. refl)
+returns-in-SetPlace c = obeys_command c.args.command SetPlace _ (search rules) c.set_place.ensures (λ h g s p. refl) (λ h g s q. refl)
 
 pub returns-in-WrapOn : goal.returns-in-WrapOn
 unfolding obey

@@ -8,4 +8,4 @@ pub returns-then-store-t : goal.returns-then-store-t
 returns-then-store-t c = simp (le-leb _ _ c.if-t-gt-MAX_RECORDS.false, lt-leb _ _ c.if-store-t.true)
 
 pub returns : goal.returns
-returns c = simp (le-leb _ _ c.if-t-gt-MAX_RECORDS.false, le-leb _ _ c.if-store-t.false) c.zeros_from_lem.ensures
+returns c = simp (le-leb _ _ c.if-t-gt-MAX_RECORDS.false, le-leb _ _ c.if-store-t.false) c.zeros_from.ensures

@@ -12,10 +12,10 @@ pub returns-in-Prefix : goal.returns-in-Prefix
 returns-in-Prefix c = obeys_done _ c.done-in-Prefix.ensures (λ p. refl) (λ h g s p. time_calm _ _ Prefix tt (search rules))
 
 pub returns-in-Gathering : goal.returns-in-Gathering
-returns-in-Gathering c = obeys_done _ c.done-in-Gathering.ensures (λ p. refl) (λ h g s p. time_calm _ _ _ tt c.enum_told-in-Gathering-1.given.1)
+returns-in-Gathering c = obeys_done _ c.done-in-Gathering.ensures (λ p. refl) (λ h g s p. time_calm _ _ _ tt c.in-Gathering.is)
 
 pub returns-in-Inline : goal.returns-in-Inline
-returns-in-Inline c = obeys_done _ c.done-in-Inline.ensures (λ p. refl) (λ h g s p. time_calm _ _ _ tt c.enum_told-in-Inline-1.given.1)
+returns-in-Inline c = obeys_done _ c.done-in-Inline.ensures (λ p. refl) (λ h g s p. time_calm _ _ _ tt c.in-Inline.is)
 
 pub returns-in-Upload : goal.returns-in-Upload
-returns-in-Upload c = obeys_as c.upload_waits.ensures (λ h g s p. refl) (λ h g s p. time_upload _ _ _ _ _ _ _ _ _ c.phase-1.given.1)
+returns-in-Upload c = obeys_as c.upload_waits.ensures (λ h g s p. refl) (λ h g s p. time_upload _ _ _ _ _ _ _ _ _ c.in-Upload.is)

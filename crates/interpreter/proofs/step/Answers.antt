@@ -11,10 +11,10 @@ pub returns-in-Prefix : goal.returns-in-Prefix
 returns-in-Prefix c = obeys_as c.take_code.ensures (λ h g s p. refl) (λ h g s p. in_prefix _ _ (search rules))
 
 pub returns-in-Gathering : goal.returns-in-Gathering
-returns-in-Gathering c = obeys_as c.take_argument.ensures (λ h g s p. refl) (λ h g s p. in_gathering _ _ _ _ c.phase-1.given.1)
+returns-in-Gathering c = obeys_as c.take_argument.ensures (λ h g s p. refl) (λ h g s p. in_gathering _ _ _ _ c.in-Gathering.is)
 
 pub returns-in-Inline : goal.returns-in-Inline
-returns-in-Inline c = obeys_as c.inline_data.ensures (λ h g s p. refl) (λ h g s p. in_inline _ _ _ _ _ _ _ c.phase-in-Inline-1.given.1)
+returns-in-Inline c = obeys_as c.inline_data.ensures (λ h g s p. refl) (λ h g s p. in_inline _ _ _ _ _ _ _ c.in-Inline.is)
 
 pub returns-in-Upload : goal.returns-in-Upload
-returns-in-Upload c = obeys_as c.upload_data.ensures (λ h g s p. refl) (λ h g s p. in_upload _ _ _ _ _ _ _ _ _ c.phase-in-Upload-1.given.1)
+returns-in-Upload c = obeys_as c.upload_data.ensures (λ h g s p. refl) (λ h g s p. in_upload _ _ _ _ _ _ _ _ _ c.in-Upload.is)

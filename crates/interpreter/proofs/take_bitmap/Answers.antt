@@ -15,4 +15,4 @@ pub overflow_add-got : goal.overflow_add-got
 overflow_add-got c = omega (arith, due_small c.args.edition c.args.got c.requires)
 
 pub returns : goal.returns
-returns c = obeys_done _ (done_with c.gathering.ensures c.done.ensures) (λ p. refl) (λ h g s p. bitmap_found _ _ _ _ _ _ _ c.requires c.gathered-args.ensures c.first_number-number.ensures _ (search rules) c.find-found.ensures _ _ _ c.enum_told-1.given.1)
+returns c = obeys_done _ (done_with c.gathering.ensures c.done.ensures) (λ p. refl) (λ h g s p. bitmap_found _ _ _ _ _ _ _ c.requires c.gathered-args.ensures c.first_number-number.ensures _ (search rules) c.find-found.ensures _ _ _ c.in-At.is)

@@ -11,4 +11,4 @@ pub returns-in_default : goal.returns-in_default
 returns-in_default c = obeys_refused 22 c.refused-in_default.ensures (λ h g s p. refl) (λ h g s p. show_22 _ _ _ _ _ (search rules) c.find-found.ensures (search rules))
 
 pub returns : goal.returns
-returns c = obeys_as c.show_file.ensures (λ h g s p. refl) (λ h g s p. show_found _ _ _ _ _ _ _ _ _ (search rules) c.find-found.ensures c.found-1.given.1 c.part-file.ensures)
+returns c = obeys_as c.show_file.ensures (λ h g s p. refl) (λ h g s p. show_found _ _ _ _ _ _ _ _ _ (search rules) c.find-found.ensures c.in-At.is c.part-file.ensures)

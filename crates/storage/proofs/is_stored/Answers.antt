@@ -6,4 +6,4 @@ pub returns-in_default : goal.returns-in_default
 returns-in_default c = stored_not _ _ _ _ c.find-found.ensures (search rules)
 
 pub returns : goal.returns
-returns c = stored_yes _ _ _ _ _ _ _ c.find-found.ensures c.enum_told-1.given.1
+returns c = stored_yes _ _ _ _ _ _ _ c.find-found.ensures c.in-At.is

@@ -10,4 +10,4 @@ pub returns-then-second-ne-PURGE_SECOND : goal.returns-then-second-ne-PURGE_SECO
 returns-then-second-ne-PURGE_SECOND c = obeys_refused 20 c.refused-then-second-ne-PURGE_SECOND.ensures (λ h g s p. refl) (λ h g s p. purge_second _ _ _ _ _ (search rules) (search rules))
 
 pub returns : goal.returns
-returns c = obeys_set _ _ (done_with (put_with c.args.port c.start_text_lem.ensures c.put_text_lem.ensures) c.done.ensures) (λ p. c.set_used.ensures) (λ h g s p. purge_done _ _ _ _ _ _ c.if-first-ne-PURGE_FIRST.false c.if-second-ne-PURGE_SECOND.false c.purge.ensures)
+returns c = obeys_set _ _ (done_with (put_with c.args.port c.start_text.ensures c.put_text.ensures) c.done.ensures) (λ p. c.set_used.ensures) (λ h g s p. purge_done _ _ _ _ _ _ c.if-first-ne-PURGE_FIRST.false c.if-second-ne-PURGE_SECOND.false c.purge.ensures)

@@ -9,7 +9,7 @@ pub returns-in_default : goal.returns-in_default
 returns-in_default c = source_22 _ _ _ _ c.if-number-eq-BUILT_IN_FONT.false c.find-found.ensures (search rules)
 
 pub returns-in_default-check : goal.returns-in_default-check
-returns-in_default-check c = source_23 _ _ _ _ c.if-number-eq-BUILT_IN_FONT.false c.find-found.ensures _ _ _ _ _ c.found-1.given.1 c.part.ensures c.check_font-check.ensures (search rules)
+returns-in_default-check c = source_23 _ _ _ _ c.if-number-eq-BUILT_IN_FONT.false c.find-found.ensures _ _ _ _ _ c.in-At.is c.part.ensures c.check_font-check.ensures (search rules)
 
 pub returns : goal.returns
-returns c = source_stored _ _ _ _ c.if-number-eq-BUILT_IN_FONT.false c.find-found.ensures _ _ _ _ _ c.found-1.given.1 c.part.ensures c.check_font-check.ensures (search rules)
+returns c = source_stored _ _ _ _ c.if-number-eq-BUILT_IN_FONT.false c.find-found.ensures _ _ _ _ _ c.in-At.is c.part.ensures c.check_font-check.ensures (search rules)

@@ -17,4 +17,4 @@ pub returns-then-y-long : goal.returns-then-y-long
 returns-then-y-long c = obeys_refused 17 c.refused-then-y-long.ensures (λ h g s p. refl) (λ h g s p. place_off_below _ _ _ _ _ _ _ _ _ c.if-column-eq0.false c.if-row-eq0.false c.pixel_of-x.ensures c.pixel_of-y.ensures (search rules) (search rules))
 
 pub returns : goal.returns
-returns c = obeys_done _ (done_with c.put_text_lem.ensures c.done.ensures) (λ p. refl) (λ h g s p. place_done _ _ _ _ _ _ _ _ _ c.if-column-eq0.false c.if-row-eq0.false c.pixel_of-x.ensures c.pixel_of-y.ensures (search rules) (search rules))
+returns c = obeys_done _ (done_with c.put_text.ensures c.done.ensures) (λ p. refl) (λ h g s p. place_done _ _ _ _ _ _ _ _ _ c.if-column-eq0.false c.if-row-eq0.false c.pixel_of-x.ensures c.pixel_of-y.ensures (search rules) (search rules))

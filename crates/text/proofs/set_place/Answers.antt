@@ -9,7 +9,7 @@ pub returns-in-BuiltIn : goal.returns-in-BuiltIn
 returns-in-BuiltIn c = obeys_as c.place_by.ensures (λ h g s p. refl) (λ h g s p. place_opened _ _ _ _ _ _ _ _ (from_built_in _ _ _ _ c.find_font-source.ensures _ (search rules) refl) (sym width_is) (sym height_is))
 
 pub returns-in-Stored : goal.returns-in-Stored
-returns-in-Stored c = obeys_as c.place_by-in-Stored.ensures (λ h g s p. refl) (λ h g s p. place_opened _ _ _ _ _ _ _ _ (from_stored _ _ _ _ c.find_font-source.ensures _ _ _ c.source-1.given.1 c.part-file.ensures) c.nominal_width.ensures c.height.ensures)
+returns-in-Stored c = obeys_as c.place_by-in-Stored.ensures (λ h g s p. refl) (λ h g s p. place_opened _ _ _ _ _ _ _ _ (from_stored _ _ _ _ c.find_font-source.ensures _ _ _ c.in-Stored.is c.part-file.ensures) c.nominal_width.ensures c.height.ensures)
 
 pub returns-in-Refused : goal.returns-in-Refused
-returns-in-Refused c = obeys_refused _ c.refused.ensures (λ h g s p. refl) (λ h g s p. place_shut _ _ _ _ _ _ (from_refused _ _ _ _ c.find_font-source.ensures _ c.source-in-Refused-1.given.1))
+returns-in-Refused c = obeys_refused _ c.refused.ensures (λ h g s p. refl) (λ h g s p. place_shut _ _ _ _ _ _ (from_refused _ _ _ _ c.find_font-source.ensures _ c.in-Refused.is))

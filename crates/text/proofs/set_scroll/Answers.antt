@@ -3,4 +3,4 @@ use mathlib.Core.Path.{refl}
 use Rattle.text.proofs.set_scroll.Goals as goal
 
 pub returns : goal.returns
-returns c = obeys_done _ (done_with c.put_text_lem.ensures c.done.ensures) (λ p. refl) (λ h g s p. refl)
+returns c = obeys_done _ (done_with c.put_text.ensures c.done.ensures) (λ p. refl) (λ h g s p. refl)

@@ -9,4 +9,4 @@ pub returns-then-y2-y1 : goal.returns-then-y2-y1
 returns-then-y2-y1 c = inline_rows _ _ _ _ _ (search rules) (search rules)
 
 pub returns : goal.returns
-returns c = inline_more _ _ _ _ _ _ (search rules) (search rules) c.inline_bytes_lem.ensures
+returns c = inline_more _ _ _ _ _ _ (search rules) (search rules) c.inline_bytes.ensures
