@@ -28,7 +28,7 @@ use Rattle.rules.proofs.Good.{parts, height_known}
 use Rattle.rules.proofs.GoodByte.{take_comes}
 use Rattle.calls.specs.Memory.{Kept}
 use Rattle.calls.specs.Feed.{feed_of}
-use Rattle.calls.specs.List.{Board, Call, feeds, arrives, takes, consumed_all}
+use Rattle.calls.specs.List.{Board, Call, feeds, arrives, takes, consumed_all, after_call}
 use Rattle.calls.specs.Bytes.{BytesInAll}
 
 -- the last corner is on a framebuffer of h rows
@@ -74,9 +74,9 @@ pub consumed_comes : (b : Board) (cs : List Call) → BytesInAll cs → ComesAll
 unfolding consumed_all
 consumed_comes b [] h = tt
 consumed_comes b (feeds p room ∷ cs) h =
-    append_comes (take (feed_of b.memory p room).consumed p) _ (take_comes (feed_of b.memory p room).consumed p h.0) (consumed_comes _ cs h.1)
-consumed_comes b (arrives x ∷ cs) h = consumed_comes _ cs h.1
-consumed_comes b (takes ∷ cs) h = consumed_comes _ cs h.1
+    append_comes (take (feed_of b.memory p room).consumed p) _ (take_comes (feed_of b.memory p room).consumed p h.0) (consumed_comes (after_call b (feeds p room)) cs h.1)
+consumed_comes b (arrives x ∷ cs) h = consumed_comes (after_call b (arrives x)) cs h.1
+consumed_comes b (takes ∷ cs) h = consumed_comes (after_call b takes) cs h.1
 
 pub run_along : (w : World) (l : List Input) → along step w l ≡ run w l
 unfolding along run

@@ -26,15 +26,15 @@ refused_is p t o n e f = f ∙ ap done_of e
 
 -- ---- one memory
 
-came_refused : (m n : Held) (o : Ruled) (k : ℕ) (l : List ℕ) → n ≡ held m.config m.framebuffer m.store m.panel_bytes_lem (refused_port m.port k) → o ≡ refused k l → Came m o n l
+came_refused : (m n : Held) (o : Ruled) (k : ℕ) (l : List ℕ) → n ≡ held m.config m.framebuffer m.store m.panel_bytes (refused_port m.port k) → o ≡ refused k l → Came m o n l
 unfolding refuse refused_port after
 came_refused m n o k l e f =
     record {
-      next = e ∙ rw (f, revised_same m.panel_bytes_lem) refl;
+      next = e ∙ rw (f, revised_same m.panel_bytes) refl;
       sends = ap sent (sym f);
     }
 
-came_done : (m n : Held) (o : Ruled) (v : World) (l : List ℕ) → n ≡ held_by m.panel_bytes_lem v → o ≡ done v l → Came m o n l
+came_done : (m n : Held) (o : Ruled) (v : World) (l : List ℕ) → n ≡ held_by m.panel_bytes v → o ≡ done v l → Came m o n l
 unfolding after
 came_done m n o v l e f = record { next = e ∙ rw f refl; sends = ap sent (sym f) }
 
@@ -52,7 +52,7 @@ module _ {t : Told} {rule : World → Ruled} {pt : Port} {G S P : Loan} {r : Out
       record {
         came = λ c g s p.
             rw f (came_refused (held (config_by t c) (found G g) (found S s) (found P p) pt) _ _ n _
-            (ap (λ (m : Held). held m.config m.framebuffer m.store m.panel_bytes_lem (refused_port pt n)) (u (config_by t c) g s p)) (e c g s p));
+            (ap (λ (m : Held). held m.config m.framebuffer m.store m.panel_bytes (refused_port pt n)) (u (config_by t c) g s p)) (e c g s p));
       }
 
   by_done : (pt' : Port) (rp : Reply) (q : List ℕ → Panel) → r ≡ sending_of pt' rp → ((p : List ℕ) → left P p ≡ revised (found P p) (q p))

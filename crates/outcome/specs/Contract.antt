@@ -49,14 +49,14 @@ pub record Held : Type 0 where
   pub config : Config
   pub framebuffer : List ℕ
   pub store : List ℕ
-  pub panel_bytes_lem : List ℕ
+  pub panel_bytes : List ℕ
   pub port : Port
 
 abbrev pub held : Config → List ℕ → List ℕ → List ℕ → Port → Held
-held c g s p t = record { config = c; framebuffer = g; store = s; panel_bytes_lem = p; port = t }
+held c g s p t = record { config = c; framebuffer = g; store = s; panel_bytes = p; port = t }
 
 abbrev pub world_of : Held → World
-world_of m = world m.framebuffer m.store (state m.config m.port (panel_of m.panel_bytes_lem))
+world_of m = world m.framebuffer m.store (state m.config m.port (panel_of m.panel_bytes))
 
 -- a world written over the panel's bytes
 abbrev pub held_by : List ℕ → World → Held
@@ -64,7 +64,7 @@ held_by p w = held w.state.config w.framebuffer w.store (revised p (panel w)) (p
 
 -- by a rule's outcome from m to n, sending l
 pub record Came (m : Held) (o : Ruled) (n : Held) (l : List ℕ) : Type 0 where
-  pub next : n ≡ held_by m.panel_bytes_lem (after (world_of m) o)
+  pub next : n ≡ held_by m.panel_bytes (after (world_of m) o)
   pub sends : l ≡ sent o
 
 -- THE PROMISE of a function that is told what was chosen by t, is handed a port and is lent the framebuffer by G, the store by S and the panel's bytes by P

@@ -20,7 +20,7 @@ pub struct Outcome {
     pub reply: Reply,
 }
 
-pub fn one_byte_lem(byte: u8) -> Reply
+pub fn one_byte(byte: u8) -> Reply
     ensures { result ≡ one_byte byte }
 {
     Reply {

@@ -16,7 +16,7 @@ use directory::{
     record_length, tally,
 };
 use files::{append, delete, store_byte, unused};
-use outcome::{Outcome, done, in_phase, one_byte_lem, put_text, refuse, refused, sending, two_bytes};
+use outcome::{Outcome, done, in_phase, one_byte, put_text, refuse, refused, sending, two_bytes};
 use panel::{set_used, used_in};
 use refusals::{
     NO_SPACE, NO_SUCH_FILE, NUMBER_IN_USE, NUMBER_OUT_OF_RANGE, UNKNOWN_TYPE, UPLOAD_ABORTED,
@@ -144,7 +144,7 @@ pub fn is_turned_away(
 fn telling(port: Port, number: u8) -> Outcome
     ensures { result ≡ telling_of port number }
 {
-    sending(refuse(port, number), one_byte_lem(TURNED_AWAY))
+    sending(refuse(port, number), one_byte(TURNED_AWAY))
 }
 
 pub fn begin_upload(
@@ -181,7 +181,7 @@ pub fn begin_upload(
             waited: 0,
         },
     );
-    sending(next, one_byte_lem(WELCOME))
+    sending(next, one_byte(WELCOME))
 }
 
 // The record of a whole file, whose size is now used too.
@@ -221,7 +221,7 @@ pub fn upload_data(
                 waited: 0,
             },
         );
-        return sending(next, one_byte_lem(byte));
+        return sending(next, one_byte(byte));
     }
     if byte != CONFIRM {
         return refused(port, UPLOAD_ABORTED);

@@ -16,4 +16,4 @@ pub overflow_cast-size : goal.overflow_cast-size
 overflow_cast-size c = omega (arith, size_fits _ _ _ _ _ c.lacks_space.ensures (search rules))
 
 pub returns : goal.returns
-returns c = obeys_one _ _ (sending_with c.in_phase-next.ensures c.one_byte_lem.ensures c.sending.ensures) (λ p. refl) (λ h g s p. upload_done _ _ _ _ _ _ c.if-number-gt-MAX_NUMBER.false _ c.is_in_use.ensures c.if-is_in_use.false _ _ _ _ _ c.tally-end.ensures.0 c.used_in.ensures c.unused-free.ensures c.kind_of.ensures c.lacks_space.ensures (search rules))
+returns c = obeys_one _ _ (sending_with c.in_phase-next.ensures c.one_byte.ensures c.sending.ensures) (λ p. refl) (λ h g s p. upload_done _ _ _ _ _ _ c.if-number-gt-MAX_NUMBER.false _ c.is_in_use.ensures c.if-is_in_use.false _ _ _ _ _ c.tally-end.ensures.0 c.used_in.ensures c.unused-free.ensures c.kind_of.ensures c.lacks_space.ensures (search rules))

@@ -4,7 +4,7 @@ use Rattle.outcome.proofs.Laws.{obeys_refused, obeys_one, obeys_done, obeys_set,
 use Rattle.storage.proofs.upload_data.Goals as goal
 
 pub returns-then-not-waiting : goal.returns-then-not-waiting
-returns-then-not-waiting c = obeys_one _ _ (sending_with c.in_phase-next.ensures c.one_byte_lem.ensures c.sending.ensures) (λ p. refl) (λ h g s p. data_echoed _ _ _ _ _ _ _ _ _ _ (search rules))
+returns-then-not-waiting c = obeys_one _ _ (sending_with c.in_phase-next.ensures c.one_byte.ensures c.sending.ensures) (λ p. refl) (λ h g s p. data_echoed _ _ _ _ _ _ _ _ _ _ (search rules))
 
 pub returns-then-byte-ne-CONFIRM : goal.returns-then-byte-ne-CONFIRM
 returns-then-byte-ne-CONFIRM c = obeys_refused 26 c.refused.ensures (λ h g s p. refl) (λ h g s p. data_26 _ _ _ _ _ _ _ _ _ _ (search rules) (search rules))
