@@ -10,10 +10,10 @@ pub returns-then-byte-ne-CONFIRM : goal.returns-then-byte-ne-CONFIRM
 returns-then-byte-ne-CONFIRM c = obeys_refused 26 c.refused.ensures (λ h g s p. refl) (λ h g s p. data_26 _ _ _ _ _ _ _ _ _ _ (search rules) (search rules))
 
 pub returns-then-stored-size : goal.returns-then-stored-size
-returns-then-stored-size c = obeys_done _ (done_with c.in_phase-next-then-stored-size.ensures c.done.ensures) (λ p. refl) (λ h g s p. data_more _ _ _ _ _ _ _ _ _ _ _ _ c.if-not-waiting.false-raw c.if-byte-ne-CONFIRM.false c.used_in-used.ensures c.IsStore_byte.ensures (search rules))
+returns-then-stored-size c = obeys_done _ (done_with c.in_phase-next-then-stored-size.ensures c.done.ensures) (λ p. refl) (λ h g s p. data_more _ _ _ _ _ _ _ _ _ _ _ _ c.if-not-waiting.false-raw c.if-byte-ne-CONFIRM.false c.used_in-used.ensures c.store_byte.ensures (search rules))
 
 pub shape_of-store : goal.shape_of-store
-shape_of-store c = c.close_upload.auto.0 ∙ c.IsStore_byte.auto.0
+shape_of-store c = c.close_upload.auto.store ∙ c.store_byte.auto.store
 
 pub returns : goal.returns
-returns c = obeys_set _ _ (done_with c.in_phase.ensures c.done-2.ensures) (λ p. c.close_upload.ensures.1) (λ h g s p. data_last _ _ _ _ _ _ _ _ _ _ _ _ c.if-not-waiting.false-raw c.if-byte-ne-CONFIRM.false c.used_in-used.ensures c.IsStore_byte.ensures _ _ c.if-stored-size.false c.kind_of.ensures c.close_upload.ensures.0)
+returns c = obeys_set _ _ (done_with c.in_phase.ensures c.done-2.ensures) (λ p. c.close_upload.ensures.1) (λ h g s p. data_last _ _ _ _ _ _ _ _ _ _ _ _ c.if-not-waiting.false-raw c.if-byte-ne-CONFIRM.false c.used_in-used.ensures c.store_byte.ensures _ _ c.if-stored-size.false c.kind_of.ensures c.close_upload.ensures.0)
