@@ -43,7 +43,7 @@ returns-in-ScrollOff c = obeys_command c.args.command ScrollOff _ (search rules)
 
 pub returns-in-ChooseFont : goal.returns-in-ChooseFont
 unfolding obey
-returns-in-ChooseFont c = obeys_command c.args.command ChooseFont _ (search rules) c.choose_font.ensures (λ h g s p. refl) (λ h g s q. choose_as c.args.config.edition c.args.t2 _ _ c.first_number.ensures)
+returns-in-ChooseFont c = obeys_command c.args.command ChooseFont _ (search rules) c.choose_font.ensures (λ h g s p. refl) (λ h g s q. choose_as c.args.config.edition c.args.a _ _ c.first_number.ensures)
 
 pub returns-in-SetMetrics : goal.returns-in-SetMetrics
 unfolding obey
@@ -91,7 +91,7 @@ returns-in-ShiftStrip c = obeys_command c.args.command ShiftStrip _ (search rule
 
 pub returns-in-ShowBitmap : goal.returns-in-ShowBitmap
 unfolding obey
-returns-in-ShowBitmap c = obeys_command c.args.command ShowBitmap _ (search rules) c.show_bitmap.ensures (λ h g s p. refl) (λ h g s q. show_as c.args.config.edition c.args.t2 _ _ _ c.first_number-number.ensures c.number_bytes-i.ensures.0)
+returns-in-ShowBitmap c = obeys_command c.args.command ShowBitmap _ (search rules) c.show_bitmap.ensures (λ h g s p. refl) (λ h g s q. show_as c.args.config.edition c.args.a _ _ _ c.first_number-number.ensures c.number_bytes-i.ensures.0)
 
 pub returns-in-DrawInline : goal.returns-in-DrawInline
 unfolding obey
@@ -99,15 +99,15 @@ returns-in-DrawInline c = obeys_command c.args.command DrawInline _ (search rule
 
 pub returns-in-UploadFont : goal.returns-in-UploadFont
 unfolding obey
-returns-in-UploadFont c = obeys_command c.args.command UploadFont _ (search rules) c.begin_upload.ensures (λ h g s p. refl) (λ h g s q. upload_as c.args.config.edition c.args.t2 _ _ 1 _ c.first_number-number-in-UploadFont.ensures c.size_in-size.ensures)
+returns-in-UploadFont c = obeys_command c.args.command UploadFont _ (search rules) c.begin_upload.ensures (λ h g s p. refl) (λ h g s q. upload_as c.args.config.edition c.args.a _ _ 1 _ c.first_number-number-in-UploadFont.ensures c.size_in-size.ensures)
 
 pub returns-in-UploadBitmap : goal.returns-in-UploadBitmap
 unfolding obey
-returns-in-UploadBitmap c = obeys_command c.args.command UploadBitmap _ (search rules) c.begin_upload-in-UploadBitmap.ensures (λ h g s p. refl) (λ h g s q. upload_as c.args.config.edition c.args.t2 _ _ 2 _ c.first_number-number-in-UploadBitmap.ensures c.size_in-size-in-UploadBitmap.ensures)
+returns-in-UploadBitmap c = obeys_command c.args.command UploadBitmap _ (search rules) c.begin_upload-in-UploadBitmap.ensures (λ h g s p. refl) (λ h g s q. upload_as c.args.config.edition c.args.a _ _ 2 _ c.first_number-number-in-UploadBitmap.ensures c.size_in-size-in-UploadBitmap.ensures)
 
 pub returns-in-DeleteFile : goal.returns-in-DeleteFile
 unfolding obey
-returns-in-DeleteFile c = obeys_command c.args.command DeleteFile _ (search rules) c.delete_file.ensures (λ h g s p. refl) (λ h g s q. delete_as c.args.config.edition c.args.t2 _ _ _ c.second_number.ensures)
+returns-in-DeleteFile c = obeys_command c.args.command DeleteFile _ (search rules) c.delete_file.ensures (λ h g s p. refl) (λ h g s q. delete_as c.args.config.edition c.args.a _ _ _ c.second_number.ensures)
 
 pub returns-in-Purge : goal.returns-in-Purge
 unfolding obey
