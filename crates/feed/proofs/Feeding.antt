@@ -196,17 +196,17 @@ feeding_more {w₀} {w} {v'} {p} {r₀} {r} {l'} {at} {i} n v l q at' f bytes o 
 pub record Stepped (m n : Held) (o : Ruled) (l : List ℕ) : Type 0 where
   pub next : world_of n ≡ after (world_of m) o
   pub sends : l ≡ sent o
-  pub written : Written n.panel_bytes_lem
+  pub written : Written n.panel_bytes
 
-pub stepped : (m n : Held) (o : Ruled) (l : List ℕ) → Kept (after (world_of m) o) → Written m.panel_bytes_lem → Came m o n l → Stepped m n o l
+pub stepped : (m n : Held) (o : Ruled) (l : List ℕ) → Kept (after (world_of m) o) → Written m.panel_bytes → Came m o n l → Stepped m n o l
 stepped m n o l k written came =
     let v : World = after (world_of m) o in
     let f = k.good.fits.panel in
-    let e : n.panel_bytes_lem ≡ panel_bytes v.state.panel =
-    ap (λ (x : Held). x.panel_bytes_lem) came.next ∙ revised_whole m.panel_bytes_lem v.state.panel written.again f.sixteen f.eight in
-    let q : panel_of n.panel_bytes_lem ≡ v.state.panel = ap panel_of e ∙ panel_back v.state.panel f.sixteen f.eight in
+    let e : n.panel_bytes ≡ panel_bytes v.state.panel =
+    ap (λ (x : Held). x.panel_bytes) came.next ∙ revised_whole m.panel_bytes v.state.panel written.again f.sixteen f.eight in
+    let q : panel_of n.panel_bytes ≡ v.state.panel = ap panel_of e ∙ panel_back v.state.panel f.sixteen f.eight in
     record {
-      next = ap (λ (x : Held). world x.framebuffer x.store (state x.config x.port (panel_of n.panel_bytes_lem))) came.next ∙ ap (λ (y : Panel). world v.framebuffer v.store (state v.state.config v.state.port y)) q;
+      next = ap (λ (x : Held). world x.framebuffer x.store (state x.config x.port (panel_of n.panel_bytes))) came.next ∙ ap (λ (y : Panel). world v.framebuffer v.store (state v.state.config v.state.port y)) q;
       sends = came.sends;
       written = record { again = e ∙ ap panel_bytes (sym q) };
     }
