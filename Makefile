@@ -32,11 +32,7 @@ else
 endif
 
 listing:
-	@mkdir -p target && rt check listing >target/demo.log 2>&1 || { cat target/demo.log >&2; exit 1; }
+	@tools/build-listing
 
 archive:
-ifdef TARGET
 	@OPT=$(OPT) tools/build-archive $(TARGET)
-else
-	@mkdir -p target && rt staticlib display >target/archive.log 2>&1 || { cat target/archive.log >&2; exit 1; }
-endif

@@ -1,7 +1,7 @@
 // The C boundary of the display: five calls over lent memory, and the numbers that a driver needs. For C99 and C++11.
 //
-// `rt staticlib display` writes the library for x86-64 Linux. `make archive TARGET=..` writes it for a Cortex-M4, and
-// for 64-bit Arm and RISC-V under Linux (docs/BOARDS.md).
+// `make archive` writes the library, which is crates/display_c, for x86-64 Linux, and with TARGET=.. also for a
+// Cortex-M4, and for 64-bit Arm and RISC-V under Linux (docs/BOARDS.md).
 //
 // One display is four slices of memory, all of them the driver's own:
 //

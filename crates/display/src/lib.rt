@@ -1,5 +1,6 @@
 // The five calls of a board: start, feed, time, arrive, take. Any bytes, of any length, may be lent to them.
 #![tactic(auto)]
+
 ghost use Rattle.std.specs.Prelude.{◌≡◌, length};
 ghost use Rattle.calls.specs.Memory.{memory};
 ghost use Rattle.calls.specs.Start.{started, start_of, emptied};
@@ -29,8 +30,7 @@ fn empty_queue(queue: &mut [u8])
 }
 
 // A white framebuffer of so many rows, the start's state in an edition of the upload protocol with what the files of the store use, an empty queue; the store stays.
-#[unsafe(no_mangle)]
-pub extern "C" fn display_start(
+pub fn display_start(
     height: u32,
     edition: u32,
     framebuffer: &mut [u8],
@@ -76,8 +76,7 @@ pub extern "C" fn display_start(
 }
 
 // A piece of the stream.
-#[unsafe(no_mangle)]
-pub extern "C" fn display_feed(
+pub fn display_feed(
     framebuffer: &mut [u8],
     store: &mut [u8],
     state: &mut [u8],
@@ -92,8 +91,7 @@ pub extern "C" fn display_feed(
 }
 
 // Milliseconds that have passed since the last such call.
-#[unsafe(no_mangle)]
-pub extern "C" fn display_time(
+pub fn display_time(
     framebuffer: &[u8],
     store: &[u8],
     state: &mut [u8],
@@ -107,8 +105,7 @@ pub extern "C" fn display_time(
 }
 
 // A byte comes in on the line.
-#[unsafe(no_mangle)]
-pub extern "C" fn display_arrive(state: &[u8], queue: &mut [u8], byte: u8, signal: &mut u8) -> u32
+pub fn display_arrive(state: &[u8], queue: &mut [u8], byte: u8, signal: &mut u8) -> u32
     ensures { served result 0 signal.new queue.new ≡ arrive_call state.now queue.old byte }
 {
     *signal = 0;
@@ -122,13 +119,7 @@ pub extern "C" fn display_arrive(state: &[u8], queue: &mut [u8], byte: u8, signa
 }
 
 // A byte is taken to be fed.
-#[unsafe(no_mangle)]
-pub extern "C" fn display_take(
-    state: &[u8],
-    queue: &mut [u8],
-    byte: &mut u8,
-    signal: &mut u8,
-) -> u32
+pub fn display_take(state: &[u8], queue: &mut [u8], byte: &mut u8, signal: &mut u8) -> u32
     ensures { served result byte.new signal.new queue.new ≡ take_call state.now queue.old }
 {
     *byte = 0;
