@@ -1,5 +1,6 @@
 // Draws small cases of every painter and prints them as rows of text: '#' is black, '.' white.
 #![tactic(auto)]
+
 use bar_graph::{Bar, write_bar};
 use bitmap::{paint_inline, paint_packed};
 use canvas::{Colour, LOW_LENGTH, is_black, plot};
@@ -25,14 +26,7 @@ fn show_row(rt: &impl Print, framebuffer: &[u8], x1: u16, x2: u16, y: u16) -> io
 }
 
 // Columns x1 up to, and not with, x2 of rows y1 up to, and not with, y2.
-fn show(
-    rt: &impl Print,
-    framebuffer: &[u8],
-    x1: u16,
-    x2: u16,
-    y1: u16,
-    y2: u16,
-) -> io::Result<()> {
+fn show(rt: &impl Print, framebuffer: &[u8], x1: u16, x2: u16, y1: u16, y2: u16) -> io::Result<()> {
     for y in y1..y2 {
         show_row(rt, framebuffer, x1, x2, y)?;
     }
