@@ -1,5 +1,6 @@
 // Prints every glyph of the built-in font, 16 to a row: '#' is black, '.' white.
 #![tactic(auto)]
+
 ghost use Rattle.std.specs.Prelude.{◌≡◌, ◌<◌};
 
 use fonts::height;
