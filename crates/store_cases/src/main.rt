@@ -1,5 +1,6 @@
 // Small cases of the store, of fonts and bitmaps in it, and of the queue, printed as lines of text.
 #![tactic(auto)]
+
 ghost use Rattle.std.specs.Prelude.{◌≡◌, length};
 
 use directory::{
