@@ -1,6 +1,7 @@
 // Obeys the bytes of the standard input on a fresh display, and lists what they leave: black runs of each row, refusals, replies.
 // The display has 128 rows where the first argument is 128, and else 64.
 #![tactic(auto)]
+
 ghost use Rattle.std.specs.Prelude.{◌≤◌, length, IfOk};
 
 use canvas::{LOW_HEIGHT, LOW_LENGTH, TALL_HEIGHT, TALL_LENGTH, WIDTH, is_black};
@@ -240,13 +241,7 @@ fn list(rt: &(impl Input + Print), framebuffer: &mut [u8], height: u8) -> io::Re
     );
     let mut shown = [0u8; SHOWN];
     let mut input = rt.reader();
-    let count = obey_all(
-        &mut input,
-        framebuffer,
-        &mut store,
-        &mut state,
-        &mut shown,
-    )?;
+    let count = obey_all(&mut input, framebuffer, &mut store, &mut state, &mut shown)?;
     show_framebuffer(rt, framebuffer, height)?;
     show_refusals(rt, &state)?;
     show_replies(rt, &shown[..count])
