@@ -1,49 +1,48 @@
 // Draws small cases of every painter and prints them as rows of text: '#' is black, '.' white.
 #![tactic(auto)]
+
 use bar_graph::{Bar, write_bar};
 use bitmap::{paint_inline, paint_packed};
 use canvas::{Colour, LOW_LENGTH, is_black, plot};
 use line::draw_line;
 use rectangle::{draw_frame, fill_rectangle};
 use scroll::{clear, scroll_up};
+use std::io;
 use strip_chart::shift_strip;
 
-fn show_pixel(framebuffer: &[u8], x: u16, y: u16) {
+fn show_pixel(rt: &impl Print, framebuffer: &[u8], x: u16, y: u16) -> io::Result<()> {
     if is_black(framebuffer, x, y) {
-        io::write_all(1, b"#");
+        rt.write_all(b"#")
     } else {
-        io::write_all(1, b".");
+        rt.write_all(b".")
     }
 }
 
-fn show_row(framebuffer: &[u8], x1: u16, x2: u16, y: u16) {
-    let mut x = x1;
-    while x < x2 {
-        show_pixel(framebuffer, x, y);
-        x += 1;
+fn show_row(rt: &impl Print, framebuffer: &[u8], x1: u16, x2: u16, y: u16) -> io::Result<()> {
+    for x in x1..x2 {
+        show_pixel(rt, framebuffer, x, y)?;
     }
-    io::write_all(1, b"\n");
+    rt.write_all(b"\n")
 }
 
 // Columns x1 up to, and not with, x2 of rows y1 up to, and not with, y2.
-fn show(framebuffer: &[u8], x1: u16, x2: u16, y1: u16, y2: u16) {
-    let mut y = y1;
-    while y < y2 {
-        show_row(framebuffer, x1, x2, y);
-        y += 1;
+fn show(rt: &impl Print, framebuffer: &[u8], x1: u16, x2: u16, y1: u16, y2: u16) -> io::Result<()> {
+    for y in y1..y2 {
+        show_row(rt, framebuffer, x1, x2, y)?;
     }
+    Ok(())
 }
 
-fn pixels() {
+fn pixels(rt: &impl Print) -> io::Result<()> {
     let mut framebuffer = [0u8; LOW_LENGTH];
     plot(&mut framebuffer, 0, 0, Colour::BLACK);
     plot(&mut framebuffer, 3, 1, Colour::BLACK);
     plot(&mut framebuffer, 240, 0, Colour::BLACK);
-    io::write_all(1, b"pixels 0 0, 3 1 and 240 0\n");
-    show(&framebuffer, 0, 8, 0, 2);
+    rt.write_all(b"pixels 0 0, 3 1 and 240 0\n")?;
+    show(rt, &framebuffer, 0, 8, 0, 2)
 }
 
-fn colours() {
+fn colours(rt: &impl Print) -> io::Result<()> {
     let mut framebuffer = [0u8; LOW_LENGTH];
     fill_rectangle(&mut framebuffer, 0, 0, 1, 0, Colour::BLACK);
     plot(&mut framebuffer, 1, 0, Colour::from_byte(0));
@@ -52,53 +51,50 @@ fn colours() {
     plot(&mut framebuffer, 4, 0, Colour::from_byte(128));
     plot(&mut framebuffer, 5, 0, Colour::from_byte(254));
     plot(&mut framebuffer, 6, 0, Colour::from_byte(255));
-    io::write_all(
-        1,
-        b"colour bytes 0 1 2 128 254 255 from column 1, 0 on black\n",
-    );
-    show(&framebuffer, 0, 8, 0, 1);
+    rt.write_all(b"colour bytes 0 1 2 128 254 255 from column 1, 0 on black\n")?;
+    show(rt, &framebuffer, 0, 8, 0, 1)
 }
 
-fn solids() {
+fn solids(rt: &impl Print) -> io::Result<()> {
     let mut framebuffer = [0u8; LOW_LENGTH];
     fill_rectangle(&mut framebuffer, 1, 1, 3, 2, Colour::BLACK);
     fill_rectangle(&mut framebuffer, 2, 1, 2, 1, Colour::WHITE);
-    io::write_all(1, b"solid 1 1 3 2, then white 2 1 2 1\n");
-    show(&framebuffer, 0, 6, 0, 4);
+    rt.write_all(b"solid 1 1 3 2, then white 2 1 2 1\n")?;
+    show(rt, &framebuffer, 0, 6, 0, 4)?;
     fill_rectangle(&mut framebuffer, 238, 62, 255, 255, Colour::BLACK);
-    io::write_all(1, b"solid 238 62 255 255, from column 234 of row 60\n");
-    show(&framebuffer, 234, 240, 60, 64);
+    rt.write_all(b"solid 238 62 255 255, from column 234 of row 60\n")?;
+    show(rt, &framebuffer, 234, 240, 60, 64)
 }
 
-fn frames() {
+fn frames(rt: &impl Print) -> io::Result<()> {
     let mut framebuffer = [0u8; LOW_LENGTH];
     draw_frame(&mut framebuffer, 1, 0, 5, 3, Colour::BLACK);
-    io::write_all(1, b"frame 1 0 5 3\n");
-    show(&framebuffer, 0, 7, 0, 5);
+    rt.write_all(b"frame 1 0 5 3\n")?;
+    show(rt, &framebuffer, 0, 7, 0, 5)?;
     draw_frame(&mut framebuffer, 236, 60, 250, 70, Colour::BLACK);
-    io::write_all(1, b"frame 236 60 250 70, from column 234 of row 59\n");
-    show(&framebuffer, 234, 240, 59, 64);
+    rt.write_all(b"frame 236 60 250 70, from column 234 of row 59\n")?;
+    show(rt, &framebuffer, 234, 240, 59, 64)
 }
 
-fn lines() {
+fn lines(rt: &impl Print) -> io::Result<()> {
     let mut framebuffer = [0u8; LOW_LENGTH];
     draw_line(&mut framebuffer, 0, 0, 2, 1, Colour::BLACK);
-    io::write_all(1, b"line 0 0 2 1\n");
-    show(&framebuffer, 0, 3, 0, 2);
+    rt.write_all(b"line 0 0 2 1\n")?;
+    show(rt, &framebuffer, 0, 3, 0, 2)?;
     clear(&mut framebuffer);
     draw_line(&mut framebuffer, 2, 1, 0, 0, Colour::BLACK);
-    io::write_all(1, b"line 2 1 0 0\n");
-    show(&framebuffer, 0, 3, 0, 2);
+    rt.write_all(b"line 2 1 0 0\n")?;
+    show(rt, &framebuffer, 0, 3, 0, 2)?;
     draw_line(&mut framebuffer, 7, 7, 7, 7, Colour::BLACK);
-    io::write_all(1, b"line 7 7 7 7, from column 6 of row 6\n");
-    show(&framebuffer, 6, 9, 6, 9);
+    rt.write_all(b"line 7 7 7 7, from column 6 of row 6\n")?;
+    show(rt, &framebuffer, 6, 9, 6, 9)?;
     clear(&mut framebuffer);
     draw_line(&mut framebuffer, 1, 0, 0, 3, Colour::BLACK);
-    io::write_all(1, b"line 1 0 0 3\n");
-    show(&framebuffer, 0, 2, 0, 4);
+    rt.write_all(b"line 1 0 0 3\n")?;
+    show(rt, &framebuffer, 0, 2, 0, 4)?;
     draw_line(&mut framebuffer, 250, 0, 236, 0, Colour::BLACK);
-    io::write_all(1, b"line 250 0 236 0, from column 234\n");
-    show(&framebuffer, 234, 240, 0, 1);
+    rt.write_all(b"line 250 0 236 0, from column 234\n")?;
+    show(rt, &framebuffer, 234, 240, 0, 1)
 }
 
 fn bar(kind: u8, x1: u8, y1: u8, x2: u8, y2: u8) -> Bar {
@@ -112,50 +108,47 @@ fn bar(kind: u8, x1: u8, y1: u8, x2: u8, y2: u8) -> Bar {
     }
 }
 
-fn vertical_bars() {
+fn vertical_bars(rt: &impl Print) -> io::Result<()> {
     let mut framebuffer = [0u8; LOW_LENGTH];
     let up = write_bar(&mut framebuffer, bar(bar_graph::FROM_BOTTOM, 1, 0, 3, 4), 2);
-    io::write_all(1, b"bar from the bottom, 1 0 3 4, value 2\n");
-    show(&framebuffer, 0, 5, 0, 5);
+    rt.write_all(b"bar from the bottom, 1 0 3 4, value 2\n")?;
+    show(rt, &framebuffer, 0, 5, 0, 5)?;
     write_bar(&mut framebuffer, up, 0);
     write_bar(&mut framebuffer, bar(bar_graph::FROM_TOP, 1, 0, 3, 4), 2);
-    io::write_all(1, b"bar from the top, 1 0 3 4, value 2\n");
-    show(&framebuffer, 0, 5, 0, 5);
+    rt.write_all(b"bar from the top, 1 0 3 4, value 2\n")?;
+    show(rt, &framebuffer, 0, 5, 0, 5)?;
     write_bar(
         &mut framebuffer,
         bar(bar_graph::FROM_BOTTOM, 10, 10, 12, 19),
         255,
     );
-    io::write_all(
-        1,
-        b"bar from the bottom, 10 10 12 19, value 255, from column 9 of row 9\n",
-    );
-    show(&framebuffer, 9, 14, 9, 21);
+    rt.write_all(b"bar from the bottom, 10 10 12 19, value 255, from column 9 of row 9\n")?;
+    show(rt, &framebuffer, 9, 14, 9, 21)
 }
 
-fn horizontal_bars() {
+fn horizontal_bars(rt: &impl Print) -> io::Result<()> {
     let mut framebuffer = [0u8; LOW_LENGTH];
     let right = write_bar(&mut framebuffer, bar(bar_graph::FROM_LEFT, 0, 0, 9, 1), 3);
-    io::write_all(1, b"bar from the left, 0 0 9 1, value 3\n");
-    show(&framebuffer, 0, 10, 0, 2);
+    rt.write_all(b"bar from the left, 0 0 9 1, value 3\n")?;
+    show(rt, &framebuffer, 0, 10, 0, 2)?;
     let grown = write_bar(&mut framebuffer, right, 5);
-    io::write_all(1, b"then 5\n");
-    show(&framebuffer, 0, 10, 0, 2);
+    rt.write_all(b"then 5\n")?;
+    show(rt, &framebuffer, 0, 10, 0, 2)?;
     write_bar(&mut framebuffer, grown, 2);
-    io::write_all(1, b"then 2\n");
-    show(&framebuffer, 0, 10, 0, 2);
+    rt.write_all(b"then 2\n")?;
+    show(rt, &framebuffer, 0, 10, 0, 2)?;
     clear(&mut framebuffer);
     write_bar(&mut framebuffer, grown, 7);
-    io::write_all(1, b"wiped at 5, then 7: only what differs is painted\n");
-    show(&framebuffer, 0, 10, 0, 2);
+    rt.write_all(b"wiped at 5, then 7: only what differs is painted\n")?;
+    show(rt, &framebuffer, 0, 10, 0, 2)?;
     clear(&mut framebuffer);
     write_bar(&mut framebuffer, bar(bar_graph::FROM_RIGHT, 0, 0, 9, 1), 3);
-    io::write_all(1, b"bar from the right, 0 0 9 1, value 3\n");
-    show(&framebuffer, 0, 10, 0, 2);
+    rt.write_all(b"bar from the right, 0 0 9 1, value 3\n")?;
+    show(rt, &framebuffer, 0, 10, 0, 2)?;
     fill_rectangle(&mut framebuffer, 0, 0, 9, 1, Colour::BLACK);
     write_bar(&mut framebuffer, bar(bar_graph::FROM_LEFT, 1, 0, 8, 1), 0);
-    io::write_all(1, b"all black, then a bar 1 0 8 1 written with 0\n");
-    show(&framebuffer, 0, 10, 0, 2);
+    rt.write_all(b"all black, then a bar 1 0 8 1 written with 0\n")?;
+    show(rt, &framebuffer, 0, 10, 0, 2)
 }
 
 // ##.##.## in row 0.
@@ -165,82 +158,82 @@ fn pattern(framebuffer: &mut [u8]) {
     plot(framebuffer, 5, 0, Colour::WHITE);
 }
 
-fn strips() {
+fn strips(rt: &impl Print) -> io::Result<()> {
     let mut framebuffer = [0u8; LOW_LENGTH];
     pattern(&mut framebuffer);
-    io::write_all(1, b"a row\n");
-    show(&framebuffer, 0, 8, 0, 1);
+    rt.write_all(b"a row\n")?;
+    show(rt, &framebuffer, 0, 8, 0, 1)?;
     shift_strip(&mut framebuffer, 1, 0, 5, 0, false);
-    io::write_all(1, b"strip 1 0 5 0 of it moved left\n");
-    show(&framebuffer, 0, 8, 0, 1);
+    rt.write_all(b"strip 1 0 5 0 of it moved left\n")?;
+    show(rt, &framebuffer, 0, 8, 0, 1)?;
     pattern(&mut framebuffer);
     shift_strip(&mut framebuffer, 1, 0, 5, 0, true);
-    io::write_all(1, b"strip 1 0 5 0 of it moved right\n");
-    show(&framebuffer, 0, 8, 0, 1);
+    rt.write_all(b"strip 1 0 5 0 of it moved right\n")?;
+    show(rt, &framebuffer, 0, 8, 0, 1)
 }
 
-fn packed() {
+fn packed(rt: &impl Print) -> io::Result<()> {
     let mut framebuffer = [0u8; LOW_LENGTH];
     let t = [0xe9, 0x24];
     paint_packed(&mut framebuffer, 1, 1, 3, 5, &t);
-    io::write_all(1, b"glyph E9 24, 3 by 5, at 1 1\n");
-    show(&framebuffer, 0, 5, 0, 7);
+    rt.write_all(b"glyph E9 24, 3 by 5, at 1 1\n")?;
+    show(rt, &framebuffer, 0, 5, 0, 7)?;
     fill_rectangle(&mut framebuffer, 0, 0, 4, 6, Colour::BLACK);
     paint_packed(&mut framebuffer, 1, 1, 3, 5, &t);
-    io::write_all(1, b"the same on black\n");
-    show(&framebuffer, 0, 5, 0, 7);
+    rt.write_all(b"the same on black\n")?;
+    show(rt, &framebuffer, 0, 5, 0, 7)?;
     clear(&mut framebuffer);
     let ring = [0xfc, 0x63, 0xf0];
     paint_packed(&mut framebuffer, 0, 0, 5, 4, &ring);
-    io::write_all(1, b"saved FC 63 F0, 5 by 4, at 0 0\n");
-    show(&framebuffer, 0, 6, 0, 5);
+    rt.write_all(b"saved FC 63 F0, 5 by 4, at 0 0\n")?;
+    show(rt, &framebuffer, 0, 6, 0, 5)?;
     paint_packed(&mut framebuffer, 238, 0, 5, 4, &ring);
-    io::write_all(1, b"the same at 238 0, from column 236\n");
-    show(&framebuffer, 236, 240, 0, 4);
+    rt.write_all(b"the same at 238 0, from column 236\n")?;
+    show(rt, &framebuffer, 236, 240, 0, 4)
 }
 
-fn in_line() {
+fn in_line(rt: &impl Print) -> io::Result<()> {
     let mut framebuffer = [0u8; LOW_LENGTH];
     paint_inline(&mut framebuffer, 1, 0, 5, 3, 0, 0xff);
     paint_inline(&mut framebuffer, 1, 0, 5, 3, 1, 0x8f);
     paint_inline(&mut framebuffer, 1, 0, 5, 3, 2, 0x8f);
     paint_inline(&mut framebuffer, 1, 0, 5, 3, 3, 0xff);
-    io::write_all(1, b"in line FF 8F 8F FF for 1 0 5 3\n");
-    show(&framebuffer, 0, 10, 0, 5);
+    rt.write_all(b"in line FF 8F 8F FF for 1 0 5 3\n")?;
+    show(rt, &framebuffer, 0, 10, 0, 5)?;
     clear(&mut framebuffer);
     paint_inline(&mut framebuffer, 0, 0, 8, 1, 0, 0x80);
     paint_inline(&mut framebuffer, 0, 0, 8, 1, 1, 0x80);
     paint_inline(&mut framebuffer, 0, 0, 8, 1, 2, 0x01);
     paint_inline(&mut framebuffer, 0, 0, 8, 1, 3, 0x7f);
-    io::write_all(1, b"in line 80 80 01 7F for 0 0 8 1\n");
-    show(&framebuffer, 0, 10, 0, 2);
+    rt.write_all(b"in line 80 80 01 7F for 0 0 8 1\n")?;
+    show(rt, &framebuffer, 0, 10, 0, 2)
 }
 
-fn scrolls() {
+fn scrolls(rt: &impl Print) -> io::Result<()> {
     let mut framebuffer = [0u8; LOW_LENGTH];
     draw_line(&mut framebuffer, 0, 0, 2, 2, Colour::BLACK);
     plot(&mut framebuffer, 3, 63, Colour::BLACK);
     scroll_up(&mut framebuffer, 1);
-    io::write_all(1, b"line 0 0 2 2 scrolled up by one row\n");
-    show(&framebuffer, 0, 4, 0, 3);
-    io::write_all(1, b"and pixel 3 63, from row 61\n");
-    show(&framebuffer, 0, 4, 61, 64);
+    rt.write_all(b"line 0 0 2 2 scrolled up by one row\n")?;
+    show(rt, &framebuffer, 0, 4, 0, 3)?;
+    rt.write_all(b"and pixel 3 63, from row 61\n")?;
+    show(rt, &framebuffer, 0, 4, 61, 64)?;
     scroll_up(&mut framebuffer, 300);
-    io::write_all(1, b"and by 300\n");
-    show(&framebuffer, 0, 4, 0, 1);
-    show(&framebuffer, 0, 4, 62, 63);
+    rt.write_all(b"and by 300\n")?;
+    show(rt, &framebuffer, 0, 4, 0, 1)?;
+    show(rt, &framebuffer, 0, 4, 62, 63)
 }
 
-fn main() {
-    pixels();
-    colours();
-    solids();
-    frames();
-    lines();
-    vertical_bars();
-    horizontal_bars();
-    strips();
-    packed();
-    in_line();
-    scrolls();
+fn main(rt: HostRuntime) -> io::Result<()> {
+    pixels(&rt)?;
+    colours(&rt)?;
+    solids(&rt)?;
+    frames(&rt)?;
+    lines(&rt)?;
+    vertical_bars(&rt)?;
+    horizontal_bars(&rt)?;
+    strips(&rt)?;
+    packed(&rt)?;
+    in_line(&rt)?;
+    scrolls(&rt)
 }

@@ -1,9 +1,11 @@
 // Prints every glyph of the built-in font, 16 to a row: '#' is black, '.' white.
 #![tactic(auto)]
+
 ghost use Rattle.std.specs.Prelude.{◌≡◌, ◌<◌};
 
 use fonts::height;
 use opened_font::{Glyph, glyph_of};
+use std::io;
 
 fn wide(b: u8) -> usize
     ensures { (result ≡ b) × (result < 256) }
@@ -21,24 +23,23 @@ fn is_black(rows: &[u8], n: usize) -> bool {
     }
 }
 
-fn show_dot(black: bool) {
+fn show_dot(rt: &impl Print, black: bool) -> io::Result<()> {
     if black {
-        io::write_all(1, b"#");
+        rt.write_all(b"#")
     } else {
-        io::write_all(1, b".");
+        rt.write_all(b".")
     }
 }
 
 // Row y of a glyph.
-fn show_row(rows: &[u8], width: u8, y: u8) {
-    let mut x = 0;
-    while x < width {
-        show_dot(is_black(rows, wide(y) * wide(width) + wide(x)));
-        x += 1;
+fn show_row(rt: &impl Print, rows: &[u8], width: u8, y: u8) -> io::Result<()> {
+    for x in 0..width {
+        show_dot(rt, is_black(rows, wide(y) * wide(width) + wide(x)))?;
     }
+    Ok(())
 }
 
-fn show_glyph(font: &[u8], character: u8, y: u8) {
+fn show_glyph(rt: &impl Print, font: &[u8], character: u8, y: u8) -> io::Result<()> {
     let found = glyph_of(font, character);
     let Glyph::At {
         offset,
@@ -46,45 +47,43 @@ fn show_glyph(font: &[u8], character: u8, y: u8) {
         height: _,
     } = found
     else {
-        return;
+        return Ok(());
     };
     if offset <= font.len() {
-        show_row(&font[offset..], width, y);
+        show_row(rt, &font[offset..], width, y)
+    } else {
+        Ok(())
     }
 }
 
 // Row y of the characters from the first to the last, with a blank column between two.
-fn show_line(font: &[u8], first: u8, last: u8, y: u8) {
-    show_glyph(font, first, y);
-    let mut c = first;
-    while c < last {
-        c += 1;
-        io::write_all(1, b" ");
-        show_glyph(font, c, y);
+fn show_line(rt: &impl Print, font: &[u8], first: u8, last: u8, y: u8) -> io::Result<()> {
+    show_glyph(rt, font, first, y)?;
+    for c in first..last {
+        rt.write_all(b" ")?;
+        show_glyph(rt, font, c + 1, y)?;
     }
-    io::write_all(1, b"\n");
+    rt.write_all(b"\n")
 }
 
-fn show(font: &[u8], first: u8, last: u8) {
-    let rows = height(font);
-    let mut y = 0;
-    while y < rows {
-        show_line(font, first, last, y);
-        y += 1;
+fn show(rt: &impl Print, font: &[u8], first: u8, last: u8) -> io::Result<()> {
+    for y in 0..height(font) {
+        show_line(rt, font, first, last, y)?;
     }
+    Ok(())
 }
 
-fn main() {
+fn main(rt: HostRuntime) -> io::Result<()> {
     let font = builtin_font::file();
-    show(&font, 32, 47);
-    io::write_all(1, b"\n");
-    show(&font, 48, 63);
-    io::write_all(1, b"\n");
-    show(&font, 64, 79);
-    io::write_all(1, b"\n");
-    show(&font, 80, 95);
-    io::write_all(1, b"\n");
-    show(&font, 96, 111);
-    io::write_all(1, b"\n");
-    show(&font, 112, 126);
+    show(&rt, &font, 32, 47)?;
+    rt.write_all(b"\n")?;
+    show(&rt, &font, 48, 63)?;
+    rt.write_all(b"\n")?;
+    show(&rt, &font, 64, 79)?;
+    rt.write_all(b"\n")?;
+    show(&rt, &font, 80, 95)?;
+    rt.write_all(b"\n")?;
+    show(&rt, &font, 96, 111)?;
+    rt.write_all(b"\n")?;
+    show(&rt, &font, 112, 126)
 }

@@ -1,12 +1,16 @@
 // Obeys the bytes of the standard input on a fresh display, and lists what they leave: black runs of each row, refusals, replies.
 // The display has 128 rows where the first argument is 128, and else 64.
 #![tactic(auto)]
-ghost use Rattle.std.specs.Prelude.{◌≤◌, length};
+
+ghost use Rattle.std.specs.Prelude.{◌≤◌, length, IfOk};
 
 use canvas::{LOW_HEIGHT, LOW_LENGTH, TALL_HEIGHT, TALL_LENGTH, WIDTH, is_black};
 use display::{display_feed, display_start};
 use feed::STORE_MOST;
 use state::OLDER;
+use std::io;
+use std::io::Read;
+use std::rt::Env;
 
 // Bytes of a piece, and room for all that they can send.
 const PIECE: usize = 4096;
@@ -44,63 +48,51 @@ fn run_end(framebuffer: &[u8], x: u16, y: u16) -> u16
     end
 }
 
-fn show_run(first: u16, last: u16) {
-    io::write_all(1, b" ");
-    io::print_decimal(1, first as u64);
-    io::write_all(1, b"-");
-    io::print_decimal(1, last as u64);
+fn show_run(rt: &impl Print, first: u16, last: u16) -> io::Result<()> {
+    print!(rt; " {first}-{last}")
 }
 
-fn show_row(framebuffer: &[u8], y: u16) {
+fn show_row(rt: &impl Print, framebuffer: &[u8], y: u16) -> io::Result<()> {
     let mut x = next_black(framebuffer, 0, y);
     if x >= WIDTH {
-        return;
+        return Ok(());
     }
-    io::print_decimal(1, y as u64);
-    io::write_all(1, b":");
+    print!(rt; "{y}:")?;
     while x < WIDTH {
         let end = run_end(framebuffer, x + 1, y);
-        show_run(x, end - 1);
+        show_run(rt, x, end - 1)?;
         x = next_black(framebuffer, end, y);
     }
-    io::write_all(1, b"\n");
+    rt.write_all(b"\n")
 }
 
-fn show_framebuffer(framebuffer: &[u8], height: u8) {
+fn show_framebuffer(rt: &impl Print, framebuffer: &[u8], height: u8) -> io::Result<()> {
+    println!(rt; "glass 240 {height}")?;
     let end = height as u16;
-    io::write_all(1, b"glass 240 ");
-    io::print_decimal(1, end as u64);
-    io::write_all(1, b"\n");
-    let mut y = 0;
-    while y < end {
-        show_row(framebuffer, y);
-        y += 1;
+    for y in 0..end {
+        show_row(rt, framebuffer, y)?;
     }
+    Ok(())
 }
 
-fn show_refusals(state: &[u8]) {
+fn show_refusals(rt: &impl Print, state: &[u8]) -> io::Result<()> {
     let port = record::decode_port(state);
     let refusals = port.refusals;
-    io::write_all(1, b"refused ");
-    io::print_decimal(1, refusals.count as u64);
-    io::write_all(1, b" last ");
-    io::print_decimal(1, refusals.last as u64);
-    io::write_all(1, b"\n");
+    let count = refusals.count;
+    let last = refusals.last;
+    println!(rt; "refused {count} last {last}")
 }
 
-fn show_reply(byte: u8) {
-    io::write_all(1, b" ");
-    io::print_decimal(1, byte as u64);
+fn show_reply(rt: &impl Print, byte: u8) -> io::Result<()> {
+    print!(rt; " {byte}")
 }
 
-fn show_replies(shown: &[u8]) {
-    io::write_all(1, b"replies");
-    let mut i = 0;
-    while i < shown.len() {
-        show_reply(shown[i]);
-        i += 1;
+fn show_replies(rt: &impl Print, shown: &[u8]) -> io::Result<()> {
+    rt.write_all(b"replies")?;
+    for byte in shown {
+        show_reply(rt, *byte)?;
     }
-    io::write_all(1, b"\n");
+    rt.write_all(b"\n")
 }
 
 // Puts replies behind the first `count` that are listed, as far as there is room; the answer is the new count.
@@ -109,14 +101,12 @@ fn keep(shown: &mut [u8], count: usize, replies: &[u8]) -> usize
     ensures { result ≤ length shown.old }
 {
     let mut at = count;
-    let mut i = 0;
-    while i < replies.len() {
+    for byte in replies {
         if at >= shown.len() {
             return at;
         }
-        shown[at] = replies[i];
+        shown[at] = *byte;
         at += 1;
-        i += 1;
     }
     at
 }
@@ -157,52 +147,75 @@ struct Turn {
     count: usize,
 }
 
+// Reads until the piece is full or the input ends; the answer is the number of bytes that were read.
+fn read_full(input: &mut impl Read, piece: &mut [u8]) -> io::Result<usize>
+    ensures { IfOk result (λ n. n ≤ length piece.new) }
+{
+    let mut done = 0;
+    while done < piece.len() {
+        let n = input.read(&mut piece[done..])?;
+        if n == 0 {
+            break;
+        }
+        done += n;
+    }
+    Ok(done)
+}
+
 // Reads a piece and feeds it; the answer says whether there may be more.
 fn obey_some(
+    input: &mut impl Read,
     framebuffer: &mut [u8],
     store: &mut [u8],
     state: &mut [u8],
     shown: &mut [u8],
     count: usize,
-) -> Turn
+) -> io::Result<Turn>
     requires { count ≤ length shown.old }
-    ensures { result.count ≤ length shown.old }
+    ensures { IfOk result (λ turn. turn.count ≤ length shown.old) }
 {
     let mut piece = [0u8; PIECE];
-    let n = io::read_full(0, &mut piece);
+    let n = read_full(input, &mut piece)?;
     if n == 0 {
-        return Turn {
+        return Ok(Turn {
             more: false,
             count: count,
-        };
+        });
     }
-    Turn {
+    Ok(Turn {
         more: true,
         count: feed(framebuffer, store, state, &piece[..n], shown, count),
-    }
+    })
 }
 
-// A proved loop has to end, and nothing says that the input does: so it counts down from a number that no run uses up.
-fn obey_all(framebuffer: &mut [u8], store: &mut [u8], state: &mut [u8], shown: &mut [u8]) -> usize
-    ensures { result ≤ length shown.old }
+// A proved loop has to end, and nothing says that the input does: so it counts to a number that no run reaches.
+fn obey_all(
+    input: &mut impl Read,
+    framebuffer: &mut [u8],
+    store: &mut [u8],
+    state: &mut [u8],
+    shown: &mut [u8],
+) -> io::Result<usize>
+    ensures { IfOk result (λ n. n ≤ length shown.old) }
 {
-    let mut turns = u64::MAX;
     let mut count = 0;
-    while turns > 0 {
-        let turn = obey_some(framebuffer, store, state, shown, count);
+    for _ in 0..u64::MAX {
+        let turn = obey_some(input, framebuffer, store, state, shown, count)?;
         count = turn.count;
         if !turn.more {
-            return count;
+            break;
         }
-        turns -= 1;
     }
-    count
+    Ok(count)
 }
 
 // Whether the first argument is 128, and not one byte more.
-fn is_tall() -> bool {
+fn is_tall(rt: &impl Env) -> bool {
     let mut word = [0u8; 3];
-    if os::arg(1, &mut word) != 3 {
+    let Ok(n) = rt.arg(1, &mut word) else {
+        return false;
+    };
+    if n != 3 {
         return false;
     }
     if word[0] != b'1' {
@@ -214,7 +227,7 @@ fn is_tall() -> bool {
     word[2] == b'8'
 }
 
-fn list(framebuffer: &mut [u8], height: u8) {
+fn list(rt: &(impl Input + Print), framebuffer: &mut [u8], height: u8) -> io::Result<()> {
     let mut store = [0u8; STORE_MOST];
     let mut state = [0u8; record::RECORD];
     let mut queue = [0u8; queue::RECORD];
@@ -227,18 +240,19 @@ fn list(framebuffer: &mut [u8], height: u8) {
         &mut queue,
     );
     let mut shown = [0u8; SHOWN];
-    let count = obey_all(framebuffer, &mut store, &mut state, &mut shown);
-    show_framebuffer(framebuffer, height);
-    show_refusals(&state);
-    show_replies(&shown[..count]);
+    let mut input = rt.reader();
+    let count = obey_all(&mut input, framebuffer, &mut store, &mut state, &mut shown)?;
+    show_framebuffer(rt, framebuffer, height)?;
+    show_refusals(rt, &state)?;
+    show_replies(rt, &shown[..count])
 }
 
-fn main() {
-    if is_tall() {
+fn main(rt: HostRuntime) -> io::Result<()> {
+    if is_tall(&rt) {
         let mut framebuffer = [0u8; TALL_LENGTH];
-        list(&mut framebuffer, TALL_HEIGHT);
+        list(&rt, &mut framebuffer, TALL_HEIGHT)
     } else {
         let mut framebuffer = [0u8; LOW_LENGTH];
-        list(&mut framebuffer, LOW_HEIGHT);
+        list(&rt, &mut framebuffer, LOW_HEIGHT)
     }
 }

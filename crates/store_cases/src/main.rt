@@ -1,5 +1,6 @@
 // Small cases of the store, of fonts and bitmaps in it, and of the queue, printed as lines of text.
 #![tactic(auto)]
+
 ghost use Rattle.std.specs.Prelude.{◌≡◌, length};
 
 use directory::{
@@ -10,55 +11,54 @@ use files::{append, delete, purge, store_byte, unused};
 use fonts::{Check, check_bitmap, check_font};
 use opened_font::{Glyph, glyph_of};
 use queue::{Flow, HELD, LOST, LOST_HIGH, PLACE, arrive, take};
+use std::io;
 
 const STORE: usize = 1024;
 
-fn say(text: &[u8]) {
-    io::write_all(1, text);
+fn say(rt: &impl Print, text: &[u8]) -> io::Result<()> {
+    rt.write_all(text)
 }
 
-fn say_number(n: usize) {
-    io::print_decimal(1, n as u64);
+fn say_number(rt: &impl Print, n: usize) -> io::Result<()> {
+    rt.print(n)
 }
 
 // A name, a number and a line end.
-fn line(name: &[u8], n: usize) {
-    say(name);
-    say_number(n);
-    say(b"\n");
+fn line(rt: &impl Print, name: &[u8], n: usize) -> io::Result<()> {
+    say(rt, name)?;
+    say_number(rt, n)?;
+    say(rt, b"\n")
 }
 
 // Bytes `from` up to, and not with, `to`.
-fn show_bytes(name: &[u8], s: &[u8], from: usize, to: usize) {
-    say(name);
-    let mut p = from;
-    while p < to {
-        say(b" ");
-        say_number(byte_at(s, p) as usize);
-        p += 1;
+fn show_bytes(rt: &impl Print, name: &[u8], s: &[u8], from: usize, to: usize) -> io::Result<()> {
+    say(rt, name)?;
+    for p in from..to {
+        say(rt, b" ")?;
+        say_number(rt, byte_at(s, p) as usize)?;
     }
-    say(b"\n");
+    say(rt, b"\n")
 }
 
 // The directory.
-fn show_valid(name: &[u8], s: &[u8]) {
-    say(name);
+fn show_valid(rt: &impl Print, name: &[u8], s: &[u8]) -> io::Result<()> {
+    say(rt, name)?;
     let surveyed = survey(s);
     if surveyed.valid {
-        say(b": valid\n");
+        say(rt, b": valid\n")
     } else {
-        say(b": invalid\n");
+        say(rt, b": invalid\n")
     }
 }
 
-fn show_tally(name: &[u8], s: &[u8]) {
+fn show_tally(rt: &impl Print, name: &[u8], s: &[u8]) -> io::Result<()> {
     let t = tally(s);
-    say(name);
-    say(b": end ");
-    say_number(t.end);
-    say(b", used ");
-    say_number(t.used);
-    say(b"\n");
+    say(rt, name)?;
+    say(rt, b": end ")?;
+    say_number(rt, t.end)?;
+    say(rt, b", used ")?;
+    say_number(rt, t.used)?;
+    say(rt, b"\n")
 }
 
 // The room that the files leave.
@@ -73,192 +73,190 @@ fn put_behind(s: &mut [u8], k: u16, byte: u8) {
     store_byte(s, (t.used % 65536) as u16, k, byte);
 }
 
-fn lengths() {
+fn lengths(rt: &impl Print) -> io::Result<()> {
     let s = [0u8; STORE];
-    show_valid(b"1024 zeros", &s);
+    show_valid(rt, b"1024 zeros", &s)?;
     let least = 256;
-    show_valid(b"256 zeros", &s[..least]);
+    show_valid(rt, b"256 zeros", &s[..least])?;
     let short = 255;
-    show_valid(b"255 zeros", &s[..short]);
+    show_valid(rt, b"255 zeros", &s[..short])?;
     let none = 0;
-    show_valid(b"no bytes", &s[..none]);
-    line(b"unused of 1024 zeros: ", room(&s));
-    line(b"unused of 255 zeros: ", room(&s[..short]));
+    show_valid(rt, b"no bytes", &s[..none])?;
+    line(rt, b"unused of 1024 zeros: ", room(&s))?;
+    line(rt, b"unused of 255 zeros: ", room(&s[..short]))
 }
 
-fn ends() {
+fn ends(rt: &impl Print) -> io::Result<()> {
     let mut s = [0u8; STORE];
     append(&mut s, OLDER_BITMAP, 5, 10);
-    show_tally(b"bitmap 5 of 10 bytes", &s);
-    show_valid(b"bitmap 5 of 10 bytes", &s);
+    show_tally(rt, b"bitmap 5 of 10 bytes", &s)?;
+    show_valid(rt, b"bitmap 5 of 10 bytes", &s)?;
     s[8] = OLDER_BITMAP;
     s[9] = 6;
     s[10] = 10;
-    show_tally(b"kind 0, then a record", &s);
-    show_valid(b"kind 0, then a record", &s);
+    show_tally(rt, b"kind 0, then a record", &s)?;
+    show_valid(rt, b"kind 0, then a record", &s)
 }
 
-fn garbage() {
+fn garbage(rt: &impl Print) -> io::Result<()> {
     let mut s = [0u8; STORE];
     append(&mut s, OLDER_FONT, 2, 10);
     s[255] = 1;
-    show_tally(b"byte 255 is 1", &s);
-    show_valid(b"byte 255 is 1", &s);
+    show_tally(rt, b"byte 255 is 1", &s)?;
+    show_valid(rt, b"byte 255 is 1", &s)?;
     s[255] = 0;
     s[256] = 1;
-    show_valid(b"byte 256 is 1", &s);
+    show_valid(rt, b"byte 256 is 1", &s)
 }
 
-fn unknown_kind() {
+fn unknown_kind(rt: &impl Print) -> io::Result<()> {
     let mut s = [0u8; STORE];
     append(&mut s, OLDER_BITMAP, 5, 10);
     append(&mut s, 5, 6, 10);
-    show_valid(b"kind 5 is not appended", &s);
+    show_valid(rt, b"kind 5 is not appended", &s)?;
     s[4] = 5;
     s[5] = 6;
     s[6] = 10;
-    show_tally(b"a record of kind 5", &s);
-    show_valid(b"a record of kind 5", &s);
+    show_tally(rt, b"a record of kind 5", &s)?;
+    show_valid(rt, b"a record of kind 5", &s)
 }
 
 // Bitmaps 1 to n, of a byte each.
 fn append_all(s: &mut [u8], n: u16) {
-    let mut k = 0;
-    while k < n {
-        k += 1;
+    for k in 1..=n {
         append(s, OLDER_BITMAP, k, 1);
     }
 }
 
-fn counts() {
+fn counts(rt: &impl Print) -> io::Result<()> {
     let mut s = [0u8; STORE];
     append_all(&mut s, 63);
-    show_tally(b"63 bitmaps", &s);
-    show_valid(b"63 bitmaps", &s);
+    show_tally(rt, b"63 bitmaps", &s)?;
+    show_valid(rt, b"63 bitmaps", &s)?;
     append(&mut s, NEWER_BITMAP, 64, 1);
-    show_tally(b"and one of 7 bytes", &s);
+    show_tally(rt, b"and one of 7 bytes", &s)?;
     append(&mut s, OLDER_BITMAP, 64, 1);
-    show_tally(b"64 bitmaps", &s);
-    show_valid(b"64 bitmaps", &s);
+    show_tally(rt, b"64 bitmaps", &s)?;
+    show_valid(rt, b"64 bitmaps", &s)?;
     append(&mut s, OLDER_BITMAP, 65, 1);
-    show_tally(b"a record that would end behind byte 256", &s);
-    show_bytes(b"bytes 252 to 259:", &s, 252, 260);
+    show_tally(rt, b"a record that would end behind byte 256", &s)?;
+    show_bytes(rt, b"bytes 252 to 259:", &s, 252, 260)
 }
 
-fn record_bytes() {
+fn record_bytes(rt: &impl Print) -> io::Result<()> {
     let mut s = [0u8; STORE];
     append_all(&mut s, 62);
     append(&mut s, NEWER_BITMAP, 63, 1);
-    show_tally(b"62 bitmaps and one of 7 bytes", &s);
-    show_valid(b"62 bitmaps and one of 7 bytes", &s);
+    show_tally(rt, b"62 bitmaps and one of 7 bytes", &s)?;
+    show_valid(rt, b"62 bitmaps and one of 7 bytes", &s)
 }
 
-fn numbers() {
+fn numbers(rt: &impl Print) -> io::Result<()> {
     let mut s = [0u8; STORE];
     append(&mut s, OLDER_BITMAP, 1, 10);
-    show_valid(b"bitmap 1", &s);
+    show_valid(rt, b"bitmap 1", &s)?;
     append(&mut s, OLDER_FONT, 2, 10);
     append(&mut s, OLDER_BITMAP, 2, 10);
-    show_valid(b"font 2 and bitmap 2", &s);
+    show_valid(rt, b"font 2 and bitmap 2", &s)?;
     append(&mut s, OLDER_FONT, 2, 20);
-    show_valid(b"font 2 twice", &s);
+    show_valid(rt, b"font 2 twice", &s)?;
     let mut t = [0u8; STORE];
     append(&mut t, OLDER_FONT, 1, 10);
-    show_valid(b"font 1", &t);
+    show_valid(rt, b"font 1", &t)
 }
 
-fn sizes() {
+fn sizes(rt: &impl Print) -> io::Result<()> {
     let mut s = [0u8; STORE];
     append(&mut s, OLDER_BITMAP, 5, 768);
-    show_valid(b"768 bytes of 768", &s);
+    show_valid(rt, b"768 bytes of 768", &s)?;
     let mut t = [0u8; STORE];
     append(&mut t, OLDER_BITMAP, 5, 400);
     append(&mut t, OLDER_BITMAP, 6, 368);
-    show_valid(b"400 and 368 bytes of 768", &t);
-    line(b"unused: ", room(&t));
+    show_valid(rt, b"400 and 368 bytes of 768", &t)?;
+    line(rt, b"unused: ", room(&t))?;
     append(&mut t, OLDER_BITMAP, 7, 1);
-    show_valid(b"and one more", &t);
-    line(b"unused: ", room(&t));
+    show_valid(rt, b"and one more", &t)?;
+    line(rt, b"unused: ", room(&t))?;
     let mut u = [0u8; STORE];
     append(&mut u, OLDER_BITMAP, 5, 0);
-    show_valid(b"size 0", &u);
+    show_valid(rt, b"size 0", &u)
 }
 
-fn newer_numbers() {
+fn newer_numbers(rt: &impl Print) -> io::Result<()> {
     let mut s = [0u8; STORE];
     append(&mut s, NEWER_BITMAP, 1023, 10);
-    show_valid(b"bitmap 1023", &s);
+    show_valid(rt, b"bitmap 1023", &s)?;
     append(&mut s, NEWER_BITMAP, 1024, 10);
-    show_valid(b"bitmap 1024", &s);
+    show_valid(rt, b"bitmap 1024", &s)?;
     let mut t = [0u8; STORE];
     append(&mut t, NEWER_FONT, 1, 10);
-    show_valid(b"font 1 of the newer edition", &t);
+    show_valid(rt, b"font 1 of the newer edition", &t)
 }
 
-fn newer_sizes() {
+fn newer_sizes(rt: &impl Print) -> io::Result<()> {
     let mut s = [0u8; STORE];
     append(&mut s, NEWER_BITMAP, 5, 70000);
-    show_bytes(b"bitmap 5 of 70000 bytes:", &s, 0, 8);
-    show_tally(b"bitmap 5 of 70000 bytes", &s);
-    show_valid(b"bitmap 5 of 70000 bytes", &s);
-    line(b"unused: ", room(&s));
+    show_bytes(rt, b"bitmap 5 of 70000 bytes:", &s, 0, 8)?;
+    show_tally(rt, b"bitmap 5 of 70000 bytes", &s)?;
+    show_valid(rt, b"bitmap 5 of 70000 bytes", &s)?;
+    line(rt, b"unused: ", room(&s))
 }
 
-fn show_found(name: &[u8], s: &[u8], sort: u8, number: u16) {
+fn show_found(rt: &impl Print, name: &[u8], s: &[u8], sort: u8, number: u16) -> io::Result<()> {
     let found = find(s, sort, number);
-    say(name);
+    say(rt, name)?;
     match found {
-        Found::Nothing => say(b": nothing\n"),
+        Found::Nothing => say(rt, b": nothing\n"),
         Found::At {
             record,
             start,
             size,
         } => {
-            say(b": record ");
-            say_number(record);
-            say(b", start ");
-            say_number(start);
-            say(b", size ");
-            say_number(size);
-            say(b"\n");
+            say(rt, b": record ")?;
+            say_number(rt, record)?;
+            say(rt, b", start ")?;
+            say_number(rt, start)?;
+            say(rt, b", size ")?;
+            say_number(rt, size)?;
+            say(rt, b"\n")
         }
     }
 }
 
-fn finds() {
+fn finds(rt: &impl Print) -> io::Result<()> {
     let mut s = [0u8; STORE];
     append(&mut s, OLDER_FONT, 2, 300);
     append(&mut s, OLDER_BITMAP, 5, 10);
     append(&mut s, OLDER_BITMAP, 2, 458);
-    show_bytes(b"directory:", &s, 0, 16);
-    show_found(b"font 2", &s, FONT, 2);
-    show_found(b"bitmap 5", &s, BITMAP, 5);
-    show_found(b"bitmap 2", &s, BITMAP, 2);
-    show_found(b"font 5", &s, FONT, 5);
-    show_found(b"bitmap 0", &s, BITMAP, 0);
+    show_bytes(rt, b"directory:", &s, 0, 16)?;
+    show_found(rt, b"font 2", &s, FONT, 2)?;
+    show_found(rt, b"bitmap 5", &s, BITMAP, 5)?;
+    show_found(rt, b"bitmap 2", &s, BITMAP, 2)?;
+    show_found(rt, b"font 5", &s, FONT, 5)?;
+    show_found(rt, b"bitmap 0", &s, BITMAP, 0)
 }
 
-fn editions() {
+fn editions(rt: &impl Print) -> io::Result<()> {
     let mut s = [0u8; STORE];
     append(&mut s, NEWER_FONT, 1023, 300);
     append(&mut s, OLDER_FONT, 2, 5);
     append(&mut s, NEWER_BITMAP, 1023, 10);
-    show_bytes(b"directory:", &s, 0, 20);
-    show_tally(b"records of both editions", &s);
-    show_valid(b"records of both editions", &s);
-    show_found(b"font 1023", &s, FONT, 1023);
-    show_found(b"font 2", &s, FONT, 2);
-    show_found(b"bitmap 1023", &s, BITMAP, 1023);
-    show_found(b"bitmap 2", &s, BITMAP, 2);
+    show_bytes(rt, b"directory:", &s, 0, 20)?;
+    show_tally(rt, b"records of both editions", &s)?;
+    show_valid(rt, b"records of both editions", &s)?;
+    show_found(rt, b"font 1023", &s, FONT, 1023)?;
+    show_found(rt, b"font 2", &s, FONT, 2)?;
+    show_found(rt, b"bitmap 1023", &s, BITMAP, 1023)?;
+    show_found(rt, b"bitmap 2", &s, BITMAP, 2)?;
     append(&mut s, NEWER_FONT, 2, 5);
-    show_valid(b"font 2 in both editions", &s);
+    show_valid(rt, b"font 2 in both editions", &s)
 }
 
 // Files.
-fn show_store(s: &[u8]) {
-    show_bytes(b"directory:", s, 0, 16);
-    show_bytes(b"area:", s, 256, 268);
-    line(b"unused: ", room(s));
+fn show_store(rt: &impl Print, s: &[u8]) -> io::Result<()> {
+    show_bytes(rt, b"directory:", s, 0, 16)?;
+    show_bytes(rt, b"area:", s, 256, 268)?;
+    line(rt, b"unused: ", room(s))
 }
 
 // Each byte goes behind the last file, and the record comes after them.
@@ -290,57 +288,57 @@ fn put_font_300(s: &mut [u8]) {
     append(s, NEWER_FONT, 300, 3);
 }
 
-fn show_delete(s: &mut [u8], sort: u8, number: u16) {
+fn show_delete(rt: &impl Print, s: &mut [u8], sort: u8, number: u16) -> io::Result<()> {
     if delete(s, sort, number) {
-        say(b"deleted\n");
+        say(rt, b"deleted\n")
     } else {
-        say(b"no such file\n");
+        say(rt, b"no such file\n")
     }
 }
 
-fn deletes() {
+fn deletes(rt: &impl Print) -> io::Result<()> {
     let mut s = [0u8; STORE];
     put_bitmap_1(&mut s);
     put_font_2(&mut s);
     put_bitmap_3(&mut s);
-    say(b"three files\n");
-    show_store(&s);
-    say(b"font 2: ");
-    show_delete(&mut s, FONT, 2);
-    show_store(&s);
-    say(b"font 2: ");
-    show_delete(&mut s, FONT, 2);
-    show_store(&s);
-    say(b"byte 99 behind them\n");
+    say(rt, b"three files\n")?;
+    show_store(rt, &s)?;
+    say(rt, b"font 2: ")?;
+    show_delete(rt, &mut s, FONT, 2)?;
+    show_store(rt, &s)?;
+    say(rt, b"font 2: ")?;
+    show_delete(rt, &mut s, FONT, 2)?;
+    show_store(rt, &s)?;
+    say(rt, b"byte 99 behind them\n")?;
     put_behind(&mut s, 0, 99);
-    show_store(&s);
-    say(b"byte 98 at 761, byte 97 at 762\n");
+    show_store(rt, &s)?;
+    say(rt, b"byte 98 at 761, byte 97 at 762\n")?;
     put_behind(&mut s, 761, 98);
     put_behind(&mut s, 762, 97);
-    show_bytes(b"bytes 1022 and 1023:", &s, 1022, 1024);
-    say(b"purged\n");
+    show_bytes(rt, b"bytes 1022 and 1023:", &s, 1022, 1024)?;
+    say(rt, b"purged\n")?;
     purge(&mut s);
-    show_store(&s);
+    show_store(rt, &s)
 }
 
-fn newer_deletes() {
+fn newer_deletes(rt: &impl Print) -> io::Result<()> {
     let mut s = [0u8; STORE];
     put_bitmap_1(&mut s);
     put_font_300(&mut s);
     put_bitmap_3(&mut s);
-    say(b"a file of the newer edition among others\n");
-    show_store(&s);
-    say(b"font 300: ");
-    show_delete(&mut s, FONT, 300);
-    show_store(&s);
+    say(rt, b"a file of the newer edition among others\n")?;
+    show_store(rt, &s)?;
+    say(rt, b"font 300: ")?;
+    show_delete(rt, &mut s, FONT, 300)?;
+    show_store(rt, &s)
 }
 
 // Fonts and bitmaps.
-fn show_check(name: &[u8], c: Check) {
-    say(name);
+fn show_check(rt: &impl Print, name: &[u8], c: Check) -> io::Result<()> {
+    say(rt, name)?;
     match c {
-        Check::Good => say(b": good\n"),
-        Check::Malformed => say(b": malformed\n"),
+        Check::Good => say(rt, b": good\n"),
+        Check::Malformed => say(rt, b": malformed\n"),
     }
 }
 
@@ -353,125 +351,127 @@ fn small_font() -> [u8; 15]
     ]
 }
 
-fn good_fonts() {
+fn good_fonts(rt: &impl Print) -> io::Result<()> {
     let mut f = small_font();
-    show_check(b"a font for 64 rows", check_font(&f, 64));
-    show_check(b"for 5 rows", check_font(&f, 5));
-    show_check(b"for 4 rows", check_font(&f, 4));
+    show_check(rt, b"a font for 64 rows", check_font(&f, 64))?;
+    show_check(rt, b"for 5 rows", check_font(&f, 5))?;
+    show_check(rt, b"for 4 rows", check_font(&f, 4))?;
     f[0] = 240;
-    show_check(b"nominal width 240", check_font(&f, 64));
+    show_check(rt, b"nominal width 240", check_font(&f, 64))
 }
 
-fn glyph_places() {
+fn glyph_places(rt: &impl Print) -> io::Result<()> {
     let mut f = small_font();
     f[5] = 0;
-    show_check(b"a glyph at 0", check_font(&f, 64));
+    show_check(rt, b"a glyph at 0", check_font(&f, 64))?;
     f[5] = 13;
-    show_check(b"a glyph of 2 bytes at 13", check_font(&f, 64));
+    show_check(rt, b"a glyph of 2 bytes at 13", check_font(&f, 64))?;
     f[5] = 14;
-    show_check(b"a glyph of 2 bytes at 14", check_font(&f, 64));
+    show_check(rt, b"a glyph of 2 bytes at 14", check_font(&f, 64))
 }
 
 // The first n bytes of a font.
-fn show_cut(name: &[u8], f: &[u8], n: usize) {
+fn show_cut(rt: &impl Print, name: &[u8], f: &[u8], n: usize) -> io::Result<()> {
     if n <= f.len() {
-        show_check(name, check_font(&f[..n], 64));
+        show_check(rt, name, check_font(&f[..n], 64))
+    } else {
+        Ok(())
     }
 }
 
-fn bad_headers() {
+fn bad_headers(rt: &impl Print) -> io::Result<()> {
     let whole = small_font();
-    show_cut(b"three bytes of a font", &whole, 3);
+    show_cut(rt, b"three bytes of a font", &whole, 3)?;
     let mut f = small_font();
     f[0] = 0;
-    show_check(b"nominal width 0", check_font(&f, 64));
+    show_check(rt, b"nominal width 0", check_font(&f, 64))?;
     f[0] = 241;
-    show_check(b"nominal width 241", check_font(&f, 64));
+    show_check(rt, b"nominal width 241", check_font(&f, 64))?;
     let mut g = small_font();
     g[1] = 0;
-    show_check(b"height 0", check_font(&g, 64));
+    show_check(rt, b"height 0", check_font(&g, 64))?;
     let mut h = small_font();
     h[2] = 67;
-    show_check(b"first 67, last 66", check_font(&h, 64));
+    show_check(rt, b"first 67, last 66", check_font(&h, 64))?;
     h[2] = 66;
-    show_check(b"first 66, last 66", check_font(&h, 64));
+    show_check(rt, b"first 66, last 66", check_font(&h, 64))
 }
 
-fn bad_entries() {
+fn bad_entries(rt: &impl Print) -> io::Result<()> {
     let whole = small_font();
-    show_cut(b"without its last byte", &whole, 14);
-    show_cut(b"without the end of its table", &whole, 9);
+    show_cut(rt, b"without its last byte", &whole, 14)?;
+    show_cut(rt, b"without the end of its table", &whole, 9)?;
     let mut f = small_font();
     f[3] = 255;
-    show_check(b"last 255", check_font(&f, 64));
+    show_check(rt, b"last 255", check_font(&f, 64))?;
     let mut g = small_font();
     g[6] = 0;
-    show_check(b"a glyph 0 wide", check_font(&g, 64));
+    show_check(rt, b"a glyph 0 wide", check_font(&g, 64))?;
     let mut h = small_font();
     h[4] = 1;
-    show_check(b"a glyph at 266", check_font(&h, 64));
+    show_check(rt, b"a glyph at 266", check_font(&h, 64))
 }
 
 // One character, in a file with room for it.
-fn large_glyphs() {
+fn large_glyphs(rt: &impl Print) -> io::Result<()> {
     let mut f = [0u8; 64];
     f[0] = 1;
     f[1] = 64;
     f[2] = 65;
     f[3] = 65;
     f[6] = 1;
-    show_check(b"height 64", check_font(&f, 64));
+    show_check(rt, b"height 64", check_font(&f, 64))?;
     f[1] = 65;
-    show_check(b"height 65", check_font(&f, 64));
+    show_check(rt, b"height 65", check_font(&f, 64))?;
     f[1] = 1;
     f[6] = 240;
-    show_check(b"a glyph 240 wide", check_font(&f, 64));
+    show_check(rt, b"a glyph 240 wide", check_font(&f, 64))?;
     f[6] = 241;
-    show_check(b"a glyph 241 wide", check_font(&f, 64));
+    show_check(rt, b"a glyph 241 wide", check_font(&f, 64))
 }
 
-fn show_glyph(name: &[u8], f: &[u8], character: u8) {
+fn show_glyph(rt: &impl Print, name: &[u8], f: &[u8], character: u8) -> io::Result<()> {
     let found = glyph_of(f, character);
-    say(name);
+    say(rt, name)?;
     match found {
-        Glyph::Missing => say(b": missing\n"),
+        Glyph::Missing => say(rt, b": missing\n"),
         Glyph::At {
             offset,
             width,
             height,
         } => {
-            say(b": at ");
-            say_number(offset);
-            say(b", width ");
-            say_number(width as usize);
-            say(b", height ");
-            say_number(height as usize);
-            say(b"\n");
+            say(rt, b": at ")?;
+            say_number(rt, offset)?;
+            say(rt, b", width ")?;
+            say_number(rt, width as usize)?;
+            say(rt, b", height ")?;
+            say_number(rt, height as usize)?;
+            say(rt, b"\n")
         }
     }
 }
 
-fn glyphs() {
+fn glyphs(rt: &impl Print) -> io::Result<()> {
     let f = small_font();
-    show_glyph(b"character 64", &f, 64);
-    show_glyph(b"character 65", &f, 65);
-    show_glyph(b"character 66", &f, 66);
-    show_glyph(b"character 67", &f, 67);
+    show_glyph(rt, b"character 64", &f, 64)?;
+    show_glyph(rt, b"character 65", &f, 65)?;
+    show_glyph(rt, b"character 66", &f, 66)?;
+    show_glyph(rt, b"character 67", &f, 67)
 }
 
-fn bitmaps() {
+fn bitmaps(rt: &impl Print) -> io::Result<()> {
     let b = [5, 4, 0xfc, 0x63, 0xf0, 0];
     let exact = 5;
-    show_check(b"5 by 4 in 3 bytes", check_bitmap(&b[..exact]));
+    show_check(rt, b"5 by 4 in 3 bytes", check_bitmap(&b[..exact]))?;
     let short = 4;
-    show_check(b"in 2 bytes", check_bitmap(&b[..short]));
-    show_check(b"in 4 bytes", check_bitmap(&b));
+    show_check(rt, b"in 2 bytes", check_bitmap(&b[..short]))?;
+    show_check(rt, b"in 4 bytes", check_bitmap(&b))?;
     let narrow = [0, 4];
-    show_check(b"0 by 4 in no bytes", check_bitmap(&narrow));
+    show_check(rt, b"0 by 4 in no bytes", check_bitmap(&narrow))?;
     let flat = [5, 0];
-    show_check(b"5 by 0 in no bytes", check_bitmap(&flat));
+    show_check(rt, b"5 by 0 in no bytes", check_bitmap(&flat))?;
     let none = 0;
-    show_check(b"no file", check_bitmap(&b[..none]));
+    show_check(rt, b"no file", check_bitmap(&b[..none]))
 }
 
 // The queue, with signals at 40 bytes free and at 39 bytes held.
@@ -496,120 +496,118 @@ fn lost(q: &[u8]) -> usize {
     low + 256 * high
 }
 
-fn put(q: &mut [u8], byte: u8) {
+fn put(rt: &impl Print, q: &mut [u8], byte: u8) -> io::Result<()> {
     let a = arrive(q, flow(), byte);
-    say(b"put ");
-    say_number(byte as usize);
-    line(b": answer ", a.answer as usize);
+    say(rt, b"put ")?;
+    say_number(rt, byte as usize)?;
+    line(rt, b": answer ", a.answer as usize)
 }
 
-fn get(q: &mut [u8]) {
+fn get(rt: &impl Print, q: &mut [u8]) -> io::Result<()> {
     let t = take(q, flow());
-    say(b"get: answer ");
-    say_number(t.answer as usize);
-    line(b", byte ", t.byte as usize);
+    say(rt, b"get: answer ")?;
+    say_number(rt, t.answer as usize)?;
+    line(rt, b", byte ", t.byte as usize)
 }
 
-fn wraps() {
-    say(b"a ring from place 79\n");
+fn wraps(rt: &impl Print) -> io::Result<()> {
+    say(rt, b"a ring from place 79\n")?;
     let mut q = [0; queue::RECORD];
     place_queue(&mut q, 79, 0);
-    get(&mut q);
-    put(&mut q, 1);
-    put(&mut q, 2);
-    get(&mut q);
-    put(&mut q, 3);
-    get(&mut q);
-    get(&mut q);
-    get(&mut q);
-    line(b"place ", byte_at(&q, PLACE) as usize);
+    get(rt, &mut q)?;
+    put(rt, &mut q, 1)?;
+    put(rt, &mut q, 2)?;
+    get(rt, &mut q)?;
+    put(rt, &mut q, 3)?;
+    get(rt, &mut q)?;
+    get(rt, &mut q)?;
+    get(rt, &mut q)?;
+    line(rt, b"place ", byte_at(&q, PLACE) as usize)
 }
 
 // n bytes put, and the signals among them.
-fn fill(q: &mut [u8], n: u8) {
-    let mut k = 0;
-    while k < n {
-        k += 1;
+fn fill(rt: &impl Print, q: &mut [u8], n: u8) -> io::Result<()> {
+    for k in 1..=n {
         let a = arrive(q, flow(), k);
         if a.signal != 0 {
-            say(b"byte ");
-            say_number(k as usize);
-            line(b" sends ", a.signal as usize);
+            say(rt, b"byte ")?;
+            say_number(rt, k as usize)?;
+            line(rt, b" sends ", a.signal as usize)?;
         }
     }
+    Ok(())
 }
 
-fn drain(q: &mut [u8], n: u8) {
-    let mut k = 0;
-    while k < n {
-        k += 1;
+fn drain(rt: &impl Print, q: &mut [u8], n: u8) -> io::Result<()> {
+    for k in 1..=n {
         let t = take(q, flow());
         if t.signal != 0 {
-            say(b"take ");
-            say_number(k as usize);
-            line(b" sends ", t.signal as usize);
+            say(rt, b"take ")?;
+            say_number(rt, k as usize)?;
+            line(rt, b" sends ", t.signal as usize)?;
         }
     }
+    Ok(())
 }
 
-fn signals() {
-    say(b"80 bytes put\n");
+fn signals(rt: &impl Print) -> io::Result<()> {
+    say(rt, b"80 bytes put\n")?;
     let mut q = [0; queue::RECORD];
-    fill(&mut q, 80);
-    line(b"held ", byte_at(&q, HELD) as usize);
-    put(&mut q, 81);
-    line(b"lost ", lost(&q));
-    say(b"80 bytes taken\n");
-    drain(&mut q, 80);
-    line(b"held ", byte_at(&q, HELD) as usize);
-    get(&mut q);
-    line(b"lost ", lost(&q));
+    fill(rt, &mut q, 80)?;
+    line(rt, b"held ", byte_at(&q, HELD) as usize)?;
+    put(rt, &mut q, 81)?;
+    line(rt, b"lost ", lost(&q))?;
+    say(rt, b"80 bytes taken\n")?;
+    drain(rt, &mut q, 80)?;
+    line(rt, b"held ", byte_at(&q, HELD) as usize)?;
+    get(rt, &mut q)?;
+    line(rt, b"lost ", lost(&q))
 }
 
-fn losses() {
-    say(b"a full queue that lost 65535\n");
+fn losses(rt: &impl Print) -> io::Result<()> {
+    say(rt, b"a full queue that lost 65535\n")?;
     let mut q = [0; queue::RECORD];
     place_queue(&mut q, 0, 80);
     q[LOST] = 255;
     q[LOST_HIGH] = 255;
-    put(&mut q, 1);
-    line(b"lost ", lost(&q));
-    line(b"held ", byte_at(&q, HELD) as usize);
+    put(rt, &mut q, 1)?;
+    line(rt, b"lost ", lost(&q))?;
+    line(rt, b"held ", byte_at(&q, HELD) as usize)
 }
 
-fn unsound() {
-    say(b"a place of 80\n");
+fn unsound(rt: &impl Print) -> io::Result<()> {
+    say(rt, b"a place of 80\n")?;
     let mut q = [0; queue::RECORD];
     place_queue(&mut q, 80, 1);
-    put(&mut q, 1);
-    get(&mut q);
-    line(b"held ", byte_at(&q, HELD) as usize);
+    put(rt, &mut q, 1)?;
+    get(rt, &mut q)?;
+    line(rt, b"held ", byte_at(&q, HELD) as usize)
 }
 
-fn main() {
-    lengths();
-    ends();
-    garbage();
-    unknown_kind();
-    counts();
-    record_bytes();
-    numbers();
-    newer_numbers();
-    sizes();
-    newer_sizes();
-    finds();
-    editions();
-    deletes();
-    newer_deletes();
-    good_fonts();
-    glyph_places();
-    bad_headers();
-    bad_entries();
-    large_glyphs();
-    glyphs();
-    bitmaps();
-    wraps();
-    signals();
-    losses();
-    unsound();
+fn main(rt: HostRuntime) -> io::Result<()> {
+    lengths(&rt)?;
+    ends(&rt)?;
+    garbage(&rt)?;
+    unknown_kind(&rt)?;
+    counts(&rt)?;
+    record_bytes(&rt)?;
+    numbers(&rt)?;
+    newer_numbers(&rt)?;
+    sizes(&rt)?;
+    newer_sizes(&rt)?;
+    finds(&rt)?;
+    editions(&rt)?;
+    deletes(&rt)?;
+    newer_deletes(&rt)?;
+    good_fonts(&rt)?;
+    glyph_places(&rt)?;
+    bad_headers(&rt)?;
+    bad_entries(&rt)?;
+    large_glyphs(&rt)?;
+    glyphs(&rt)?;
+    bitmaps(&rt)?;
+    wraps(&rt)?;
+    signals(&rt)?;
+    losses(&rt)?;
+    unsound(&rt)
 }
