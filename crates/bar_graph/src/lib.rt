@@ -1,5 +1,6 @@
 // Bars of a bar graph: a write paints between the old value and the new one, and is lent only the rows of its bar.
 #![tactic(auto)]
+
 ghost use Rattle.std.specs.Prelude.{◌≡◌, ◌<◌, ◌-◌, max};
 ghost use Rattle.pixels.specs.Framebuffer.{fill};
 ghost use Rattle.bar_graph.specs.Bars.{vertical, from_far, length_of, held_to, stripe, write_of, written_bar};

@@ -1,5 +1,6 @@
 // The built-in font, number 1: characters 32 to 126, 5 by 7. A file as any other font is.
 #![tactic(auto)]
+
 ghost use Rattle.std.specs.Prelude.{◌≡◌};
 ghost use Rattle.builtin_font.specs.Table.{table};
 ghost use Rattle.builtin_font.specs.Shapes.{rows_of};

@@ -1,5 +1,6 @@
 // Colours, the sizes of the framebuffer, and the painting and reading of single pixels.
 #![tactic(auto)]
+
 ghost use Rattle.std.specs.Prelude.{◌≡◌, min};
 ghost use Rattle.pixels.specs.Framebuffer.{cell, fill, black, row_start};
 ghost use Rattle.pixels.specs.Regions.{point};

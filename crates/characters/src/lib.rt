@@ -1,5 +1,6 @@
 // Characters: where each goes, and what is drawn there. One that the font lacks is a black box, or is ignored.
 #![tactic(auto)]
+
 ghost use Rattle.std.specs.Prelude.{◌≡◌, ◌&&◌, ◌+◌, ◌<◌, ◌≤◌, leb};
 ghost use Rattle.builtin_font.specs.Table.{table};
 ghost use Rattle.state.specs.State.{with_text};

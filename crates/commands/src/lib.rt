@@ -1,5 +1,6 @@
 // Every command with its fixed arguments, obeyed by the function of its family.
 #![tactic(auto)]
+
 ghost use Rattle.std.specs.Prelude.{◌≡◌, ◌+◌, ◌*◌, ◌≤◌};
 ghost use Rattle.rules.specs.Numbers.{number_bytes, number_at, size_in};
 ghost use Rattle.rules.specs.Step.{obey};

@@ -1,5 +1,6 @@
 // The directory of the store: the records in its first 256 bytes, read. Any bytes may stand there, and any number of them.
 #![tactic(auto)]
+
 ghost use Rattle.std.specs.Prelude.{◌≡◌, true, false, ◌&&◌, ◌+◌, ◌*◌, ◌%◌, ◌≤◌, ◌<◌, min, leb, length, get_or, take, drop};
 ghost use Rattle.directory.specs.Directory.{is_newer, length_of, sort_of, step_at, pair_at, entry_at, entries, totals_of, is_file, find_of, is_fair, zeros_from, broken_survey, survey_of};
 

@@ -1,5 +1,6 @@
 // Drawing commands: clear, colour, pixel, line, frame, solid rectangle.
 #![tactic(auto)]
+
 ghost use Rattle.std.specs.Prelude.{◌≡◌};
 ghost use Rattle.state.specs.State.{with_drawing};
 ghost use Rattle.rules.specs.Drawing.{clear, set_colour, draw_pixel, draw_line, ordered, draw_frame, fill_rectangle};

@@ -1,5 +1,6 @@
 // What comes in over lent memory, a piece of the stream or time: checked, obeyed as far as the reply room goes, and written back.
 #![tactic(auto)]
+
 ghost use Rattle.std.specs.Prelude.{◌≡◌, ◌+◌, ◌≤◌, length, drop};
 ghost use Rattle.std.proofs.lemmas.List.Edits.{sets};
 ghost use Rattle.directory.specs.Directory.{entries, totals_of};

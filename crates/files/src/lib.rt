@@ -1,5 +1,6 @@
 // Files put into the store and taken out. Any bytes may be lent, and any number of them.
 #![tactic(auto)]
+
 ghost use Rattle.std.specs.Prelude.{◌≡◌, true, false, ◌+◌, ◌≤◌, length, drop, replicate};
 ghost use Rattle.std.proofs.Math.Seq.{paste};
 ghost use Rattle.files.specs.Moves.{closed};

@@ -1,5 +1,6 @@
 // Fonts and bitmaps as they lie in a file: checked whole, and read. Any bytes may be lent, and any number of them.
 #![tactic(auto)]
+
 ghost use Rattle.std.specs.Prelude.{◌≡◌, ◌≤◌, ◌<◌};
 ghost use Rattle.fonts.specs.Checks.{check_of, between};
 ghost use Rattle.fonts.specs.Bitmaps.{packed_bytes, bitmap_width, bitmap_height, is_bitmap};

@@ -1,5 +1,6 @@
 // Commands of bar graphs and strip charts.
 #![tactic(auto)]
+
 ghost use Rattle.std.specs.Prelude.{◌≡◌, ◌<◌};
 ghost use Rattle.rules.specs.Bars.{apart, set_up_bar, write_bar, set_up_strip, shift_strip};
 ghost use Rattle.outcome.specs.Contract.{unlent, lent, untold, told, Obeys};

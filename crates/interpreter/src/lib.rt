@@ -1,5 +1,6 @@
 // One input: what a byte comes to in each phase, and time.
 #![tactic(auto)]
+
 ghost use Rattle.std.specs.Prelude.{◌≡◌, true, ◌&&◌, ◌+◌, eqb, set};
 ghost use Rattle.state.specs.declared.Phase.TheVariants.{Gathering};
 ghost use Rattle.state.specs.State.{with_phase};

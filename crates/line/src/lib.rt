@@ -3,6 +3,7 @@
 // One axis, the major one, takes a step at every pixel; the other, the minor one, steps where the signed error term says so.
 // Nothing in the loop divides. specs/Line.antt has the rule by division, and the proofs show that both are the same line.
 #![tactic(auto)]
+
 ghost use Rattle.std.specs.Prelude.{◌≡◌, ◌≤◌};
 ghost use Rattle.pixels.specs.Framebuffer.{fill};
 ghost use Rattle.pixels.specs.Regions.{point};

@@ -1,6 +1,7 @@
 // An opened font: the part of the store that its file occupies, with its height and its first character. A reference in a struct
 // is proved by hand, so two thin functions have one, `open` and `lookup`; callers use `glyph_of`, which has plain parameters.
 #![tactic(auto)]
+
 ghost use Rattle.std.specs.Prelude.{◌≡◌};
 ghost use Rattle.opened_font.specs.Glyphs.{font_of, glyph_in, glyph_of};
 

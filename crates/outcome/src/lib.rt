@@ -1,5 +1,6 @@
 // What comes of a byte: the next port, and the bytes to send. A refusal alters nothing of the port but what it names.
 #![tactic(auto)]
+
 ghost use Rattle.std.specs.Prelude.{◌≡◌};
 ghost use Rattle.state.specs.State.{with_text};
 ghost use Rattle.outcome.specs.Outcome.{one_byte, two_bytes, in_phase_of, refused_port, done_of, refused_of, sending_of};

@@ -1,6 +1,7 @@
 // The panel as it stands in the bytes of the state record: one bar, strip or setting read, or written where it stands. Any bytes may
 // be lent, and any number of them: behind their end all are 0, and what is written there is lost.
 #![tactic(auto)]
+
 ghost use Rattle.std.specs.Prelude.{◌≡◌, true, false, ◌<◌, set};
 ghost use Rattle.queue.specs.Record.{at};
 ghost use Rattle.state.specs.State.{bar_at, strip_at, with_bars, with_strips, with_serial, with_contrast, with_backlight, with_used, bar_slot, strip};

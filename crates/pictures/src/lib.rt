@@ -1,5 +1,6 @@
 // Commands of saved bitmaps and of data in line.
 #![tactic(auto)]
+
 ghost use Rattle.rules.specs.Pictures.{bitmap_in, show_bitmap, begin_inline, inline_data};
 ghost use Rattle.outcome.specs.Contract.{unlent, lent, untold, Obeys};
 

@@ -1,5 +1,6 @@
 // A queue of bytes: a ring buffer with a held count, a watermark and a count of lost bytes, and its record.
 #![tactic(auto)]
+
 ghost use Rattle.std.specs.Prelude.{◌≡◌, ◌<◌, ◌≤◌};
 ghost use Rattle.queue.specs.Watermarks.{high_water, low_water, while_on};
 ghost use Rattle.queue.specs.Queue.{stored, counted, oldest, advanced};

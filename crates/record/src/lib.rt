@@ -1,5 +1,6 @@
 // The record of 209 bytes in which a caller keeps the state: its layout, and what is read from it.
 #![tactic(auto)]
+
 mod reading;
 
 ghost use Rattle.std.specs.Prelude.{◌≡◌};

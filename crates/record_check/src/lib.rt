@@ -1,5 +1,6 @@
 // Whether a record of the state may be accepted: each part is tested where it stands, and no state is made of it.
 #![tactic(auto)]
+
 mod checking;
 
 ghost use Rattle.std.specs.Prelude.{◌≡◌};

@@ -1,5 +1,6 @@
 // The record of a state, written over the bytes that a caller keeps.
 #![tactic(auto)]
+
 ghost use Rattle.std.specs.Prelude.{◌≡◌, [], ◌∷◌, ◌+◌, ◌-◌, ◌≤◌, min, ◌<◌, length};
 ghost use Rattle.queue.specs.Record.{bit};
 ghost use Rattle.record.specs.Layout.{phase_at, arguments_at, port_size, height_at, bars_at, strips_at, record_size};

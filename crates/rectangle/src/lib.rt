@@ -1,6 +1,7 @@
 // Rectangles, solid and framed, painted by the byte: whole bytes between the left and right ends, and at either end the pixels under a
 // mask. A rectangle beyond the framebuffer is clipped, one with its corners out of order is empty.
 #![tactic(auto)]
+
 ghost use Rattle.std.specs.Prelude.{◌≡◌, ◌+◌, ◌*◌, ◌/◌, ◌<◌, ◌≤◌, min, length};
 ghost use Rattle.pixels.specs.Framebuffer.{fill, width, stride};
 ghost use Rattle.pixels.specs.Regions.{box, columns, rectangle};

@@ -1,5 +1,6 @@
 // The numbers of the refusals: why a command or a character was not obeyed. The same names as in `specs/`.
 #![tactic(auto)]
+
 pub const UNKNOWN_COMMAND: u8 = 16;
 
 pub const OUT_OF_BOUNDS: u8 = 17;

@@ -1,5 +1,6 @@
 // The whole framebuffer: cleared, and scrolled up.
 #![tactic(auto)]
+
 ghost use Rattle.std.specs.Prelude.{◌≡◌, false, ◌+◌, ◌≤◌, length};
 ghost use Rattle.pixels.specs.Framebuffer.{fill};
 ghost use Rattle.pixels.specs.Regions.{everywhere};

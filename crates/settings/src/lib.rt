@@ -1,5 +1,6 @@
 // Commands that only set something: flow control, contrast, backlight, serial number.
 #![tactic(auto)]
+
 ghost use Rattle.std.specs.Prelude.{◌≡◌, ◌<◌};
 ghost use Rattle.state.specs.State.{with_flow};
 ghost use Rattle.rules.specs.Settings.{flow_on, flow_off, set_contrast, backlight_on, backlight_off, set_serial};

@@ -1,5 +1,6 @@
 // What the display remembers between bytes, by value: what the board chose at start, what belongs to one serial line (Port) and what belongs to the display (Panel).
 #![tactic(auto)]
+
 mod checks;
 mod initial;
 

@@ -1,5 +1,6 @@
 // Commands of files: upload, delete, purge.
 #![tactic(auto)]
+
 ghost use Rattle.std.specs.Prelude.{◌≡◌, ◌+◌, ◌-◌, ◌%◌, ◌||◌, nat_lt};
 ghost use Rattle.directory.specs.Directory.{entries, has_file};
 ghost use Rattle.files.specs.Files.{unused_of, entry, appended, deleted};

@@ -1,6 +1,7 @@
 // Strip charts: the pixels of a rectangle moved by one column, a byte of a row at a time. It is clipped; with its corners out of order it
 // is empty.
 #![tactic(auto)]
+
 ghost use Rattle.std.specs.Prelude.{◌≡◌, true, ◌≤◌, ◌<◌, max};
 ghost use Rattle.pixels.specs.Framebuffer.{width};
 ghost use Rattle.strip_chart.specs.Strips.{entering, source, shifted_strip};

@@ -1,5 +1,6 @@
 // Text: its settings, the text point and the current font. Characters are drawn in the crate above.
 #![tactic(auto)]
+
 ghost use Rattle.std.specs.Prelude.{◌≡◌, [], ◌∷◌, ◌+◌, ◌*◌, ◌-◌, ◌<◌, ◌≤◌};
 ghost use Rattle.rules.specs.World.{put_text, quietly};
 ghost use Rattle.rules.specs.Text.{at_point, home, with_wrap, with_scroll, with_metrics, choose_font, set_place};

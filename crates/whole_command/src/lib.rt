@@ -1,5 +1,6 @@
 // A command that stands whole at the front of what is left of a piece: how many bytes it has, and obeyed at once.
 #![tactic(auto)]
+
 ghost use Rattle.std.specs.Prelude.{◌≡◌, ◌+◌, ◌≤◌, min, length, take, drop};
 ghost use Rattle.std.proofs.lemmas.List.Edits.{sets};
 ghost use Rattle.state.specs.State.{no_args};

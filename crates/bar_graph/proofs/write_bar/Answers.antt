@@ -10,7 +10,7 @@ returns-then-bar c = let a = c.args in (keeps _ _ _ c.held.ensures, write_none a
 
 pub returns : goal.returns
 returns c = let a = c.args in (
-      keeps _ _ _ c.held.ensures,
-      write_lent a.bar a.value a.framebuffer.now _ c.raised.result c.rows_between-rows.result c.wide.result c.wide-2.result
-          (λ i. (c.slice_known-1.given i).fits) (search rules) c.wide.ensures.0 c.wide-2.ensures.0 c.raised.ensures c.rows_between-rows.ensures c.paint_write.ensures,
-    )
+  keeps _ _ _ c.held.ensures,
+  write_lent a.bar a.value a.framebuffer.now _ c.raised.result c.rows_between-rows.result c.wide.result c.wide-2.result
+      (λ i. (c.slice_known-1.given i).fits) (search rules) c.wide.ensures.0 c.wide-2.ensures.0 c.raised.ensures c.rows_between-rows.ensures c.paint_write.ensures,
+)
