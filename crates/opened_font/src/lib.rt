@@ -1,5 +1,5 @@
-// An opened font: the part of the store that its file occupies, with its height and its first character. A reference in a struct
-// is proved by hand, so two thin functions have one, `open` and `lookup`; callers use `glyph_of`, which has plain parameters.
+// An opened font: the part of the store that its file occupies, with its height and its first character. Two thin functions have
+// that struct, `open` and `lookup`; callers use `glyph_of`, which has plain parameters.
 #![tactic(auto)]
 
 ghost use Rattle.std.specs.Prelude.{◌≡◌};
