@@ -2,7 +2,7 @@
 // The display has 128 rows where the first argument is 128, and else 64.
 #![tactic(auto)]
 
-ghost use Rattle.std.specs.Prelude.{◌≤◌, length, IfOk};
+ghost use Rattle.std.specs.Prelude.{◌≡◌, ◌≤◌, length, IfErr, IfOk};
 
 use canvas::{LOW_HEIGHT, LOW_LENGTH, TALL_HEIGHT, TALL_LENGTH, WIDTH, is_black};
 use display::{display_feed, display_start};
@@ -149,7 +149,8 @@ struct Turn {
 
 // Reads until the piece is full or the input ends; the answer is the number of bytes that were read.
 fn read_full(input: &mut impl Read, piece: &mut [u8]) -> io::Result<usize>
-    ensures { IfOk result (λ n. n ≤ length piece.new) }
+    ensures ok { IfOk result (λ n. n ≤ length piece.new) }
+    ensures err { IfErr result (λ e. length piece.new ≡ length piece.old) }
 {
     let mut done = 0;
     while done < piece.len() {
@@ -172,7 +173,8 @@ fn obey_some(
     count: usize,
 ) -> io::Result<Turn>
     requires { count ≤ length shown.old }
-    ensures { IfOk result (λ turn. turn.count ≤ length shown.old) }
+    ensures ok { IfOk result (λ turn. turn.count ≤ length shown.old) }
+    ensures err { IfErr result (λ e. length shown.new ≡ length shown.old) }
 {
     let mut piece = [0u8; PIECE];
     let n = read_full(input, &mut piece)?;
@@ -196,7 +198,8 @@ fn obey_all(
     state: &mut [u8],
     shown: &mut [u8],
 ) -> io::Result<usize>
-    ensures { IfOk result (λ n. n ≤ length shown.old) }
+    ensures ok { IfOk result (λ n. n ≤ length shown.old) }
+    ensures err { IfErr result (λ e. length shown.new ≡ length shown.old) }
 {
     let mut count = 0;
     for _ in 0..u64::MAX {
