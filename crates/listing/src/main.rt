@@ -2,7 +2,7 @@
 // The display has 128 rows where the first argument is 128, and else 64.
 #![tactic(auto)]
 
-ghost use Rattle.std.specs.Prelude.{◌≡◌, ◌≤◌, length, IfErr, IfOk};
+ghost use Rattle.std.specs.Prelude.{◌≤◌, length};
 
 use canvas::{LOW_HEIGHT, LOW_LENGTH, TALL_HEIGHT, TALL_LENGTH, WIDTH, is_black};
 use display::{display_feed, display_start};
@@ -147,20 +147,21 @@ struct Turn {
     count: usize,
 }
 
-// Reads until the piece is full or the input ends; the answer is the number of bytes that were read.
-fn read_full(input: &mut impl Read, piece: &mut [u8]) -> io::Result<usize>
-    ensures ok { IfOk result (λ n. n ≤ length piece.new) }
-    ensures err { IfErr result (λ e. length piece.new ≡ length piece.old) }
+// Reads until the piece is full or the input ends, or cannot be read; the answer is the number of bytes that were read.
+fn read_full(input: &mut impl Read, piece: &mut [u8]) -> usize
+    ensures { result ≤ length piece.new }
 {
     let mut done = 0;
     while done < piece.len() {
-        let n = input.read(&mut piece[done..])?;
+        let Ok(n) = input.read(&mut piece[done..]) else {
+            break;
+        };
         if n == 0 {
             break;
         }
         done += n;
     }
-    Ok(done)
+    done
 }
 
 // Reads a piece and feeds it; the answer says whether there may be more.
@@ -171,23 +172,22 @@ fn obey_some(
     state: &mut [u8],
     shown: &mut [u8],
     count: usize,
-) -> io::Result<Turn>
+) -> Turn
     requires { count ≤ length shown.old }
-    ensures ok { IfOk result (λ turn. turn.count ≤ length shown.old) }
-    ensures err { IfErr result (λ e. length shown.new ≡ length shown.old) }
+    ensures { result.count ≤ length shown.old }
 {
     let mut piece = [0u8; PIECE];
-    let n = read_full(input, &mut piece)?;
+    let n = read_full(input, &mut piece);
     if n == 0 {
-        return Ok(Turn {
+        return Turn {
             more: false,
             count: count,
-        });
+        };
     }
-    Ok(Turn {
+    Turn {
         more: true,
         count: feed(framebuffer, store, state, &piece[..n], shown, count),
-    })
+    }
 }
 
 // A proved loop has to end, and nothing says that the input does: so it counts to a number that no run reaches.
@@ -197,19 +197,18 @@ fn obey_all(
     store: &mut [u8],
     state: &mut [u8],
     shown: &mut [u8],
-) -> io::Result<usize>
-    ensures ok { IfOk result (λ n. n ≤ length shown.old) }
-    ensures err { IfErr result (λ e. length shown.new ≡ length shown.old) }
+) -> usize
+    ensures { result ≤ length shown.old }
 {
     let mut count = 0;
     for _ in 0..u64::MAX {
-        let turn = obey_some(input, framebuffer, store, state, shown, count)?;
+        let turn = obey_some(input, framebuffer, store, state, shown, count);
         count = turn.count;
         if !turn.more {
             break;
         }
     }
-    Ok(count)
+    count
 }
 
 // Whether the first argument is 128, and not one byte more.
@@ -244,7 +243,7 @@ fn list(rt: &(impl Input + Print), framebuffer: &mut [u8], height: u8) -> io::Re
     );
     let mut shown = [0u8; SHOWN];
     let mut input = rt.reader();
-    let count = obey_all(&mut input, framebuffer, &mut store, &mut state, &mut shown)?;
+    let count = obey_all(&mut input, framebuffer, &mut store, &mut state, &mut shown);
     show_framebuffer(rt, framebuffer, height)?;
     show_refusals(rt, &state)?;
     show_replies(rt, &shown[..count])
