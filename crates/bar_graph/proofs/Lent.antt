@@ -21,9 +21,6 @@ use Rattle.bar_graph.specs.declared.Bar.{Bar}
 use Rattle.bar_graph.specs.Bars.{rectangle_of, depth, length_of, held_to, stripe, write_of}
 use Rattle.bar_graph.specs.Raised.{raised_of}
 
-pub raised_is : (b : Bar) (n : ℕ) → n ≡ b.y2 - b.y1 → ◌≡◌ {A = Bar} (record { kind = b.kind; x1 = b.x1; y1 = 0; x2 = b.x2; y2 = n; value = b.value }) (raised_of b)
-raised_is b n e = rw e
-
 -- its length, and so its values, stay
 held_raised : (b : Bar) (v : ℕ) → b.y1 ≤ b.y2 → held_to (raised_of b) v ≡ held_to b v
 unfolding held_to length_of

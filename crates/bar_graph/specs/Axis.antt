@@ -2,10 +2,10 @@
 -- What contracts of private functions cite, and no rule.
 -- Assumes nothing.
 use Rattle.std.specs.Prelude.{Bool, cond, ℕ, ◌+◌, ◌-◌, min, max}
-use Rattle.bar_graph.specs.declared.Interval.{Interval}
+use Rattle.std.specs.declared.ops.Range.{Range}
 
-abbrev pub interval : ℕ → ℕ → Interval
-interval from to = record { from = from; to = to }
+abbrev pub interval : ℕ → ℕ → Range ℕ
+interval from to = record { start = from; end = to }
 
 abbrev pub first : Bool → ℕ → ℕ → ℕ → ℕ → ℕ
 first far lo hi a e = cond far (max lo (hi + 1 - e)) (lo + a)
@@ -13,5 +13,5 @@ first far lo hi a e = cond far (max lo (hi + 1 - e)) (lo + a)
 abbrev pub end : Bool → ℕ → ℕ → ℕ → ℕ → ℕ
 end far lo hi a e = cond far (hi + 1 - a) (min (lo + e) (hi + 1))
 
-unfoldable pub interval_of : Bool → ℕ → ℕ → ℕ → ℕ → Interval
+unfoldable pub interval_of : Bool → ℕ → ℕ → ℕ → ℕ → Range ℕ
 interval_of far lo hi a e = interval (first far lo hi a e) (end far lo hi a e)

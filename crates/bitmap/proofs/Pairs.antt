@@ -23,13 +23,14 @@ use Rattle.canvas.specs.Canvas.{masked}
 use Rattle.spans.specs.Bits.{blended_of, cell_bits, bits_from, window_of}
 use Rattle.spans.proofs.Cells.{blend_on, cell_painted}
 use Rattle.spans.proofs.Windows.{low_bit, window_is}
+use Rattle.std.specs.Int.{w16, swap_bytes}
 use Rattle.bitmap.specs.Pairs.{pair_of, swapped, column_mask, BlendedPair, put_pair}
 
 -- ---- read, blended and stored
 
-pub pair_is : (s : List ℕ) (i a b : ℕ) → a ≡ get_or s i 0 → b ≡ get_or s (i + 1) 0 → a + 256 * b ≡ pair_of s i
+pub pair_is : (s : List ℕ) (i n : ℕ) → n ≡ get_or s i 0 + 256 * get_or s (i + 1) 0 → n ≡ pair_of s i
 unfolding pair_of
-pair_is s i a b p q = rw (p, q)
+pair_is s i n e = e
 
 unequal : Bool → Bool → Bool
 unequal a b = cond a (not b) b
@@ -96,6 +97,10 @@ module _ (g : List ℕ) (i : ℕ) (h : Bytes g) (l : i + 1 < length g) where
 
 -- ---- the two bytes of a number swapped
 
+pub swap_is : (n r : ℕ) → n < 65536 → r ≡ swap_bytes w16 n → r ≡ swapped n
+unfolding swapped
+swap_is n r h e = omega arith
+
 swapped_first : (n : ℕ) → n < 65536 → swapped n % 256 ≡ n / 256
 unfolding swapped
 swapped_first n h = omega arith
@@ -103,10 +108,6 @@ swapped_first n h = omega arith
 swapped_second : (n : ℕ) → n < 65536 → swapped n / 256 ≡ n % 256
 unfolding swapped
 swapped_second n h = omega arith
-
-in_order : (s : List ℕ) (i : ℕ) → Bytes s → swapped (pair_of s i) ≡ 256 * get_or s i 0 + get_or s (i + 1) 0
-unfolding swapped pair_of
-in_order s i h = omega (arith, h i, h (i + 1))
 
 -- ---- the mask of n columns from column s on, in each of the two bytes
 
@@ -180,8 +181,8 @@ shifted_by n s h =
     let z : s + (8 - s) ≡ 8 = omega arith in
     (let y : n * 2 ^ s / 2 ^ (s + (8 - s)) ≡ n * 2 ^ s / 256 = rw z in sym y) ∙ sym (shr-shr (n * 2 ^ s) s (8 - s)) ∙ rw (shl-shr n s)
 
-pub pair_window : (bits : List ℕ) (k : ℕ) → Bytes bits → swapped (pair_of bits (k / 8)) * 2 ^ (k % 8) % 65536 / 256 ≡ window_of bits k
+pub pair_window : (bits : List ℕ) (k : ℕ) → Bytes bits → (256 * get_or bits (k / 8) 0 + get_or bits (k / 8 + 1) 0) * 2 ^ (k % 8) % 65536 / 256 ≡ window_of bits k
 pair_window bits k b =
-    field (swapped (pair_of bits (k / 8)) * 2 ^ (k % 8)) 8 8
-    ∙ rw (shifted_by (swapped (pair_of bits (k / 8))) (k % 8) (omega arith), in_order bits (k / 8) b)
+    field ((256 * get_or bits (k / 8) 0 + get_or bits (k / 8 + 1) 0) * 2 ^ (k % 8)) 8 8
+    ∙ rw (shifted_by (256 * get_or bits (k / 8) 0 + get_or bits (k / 8 + 1) 0) (k % 8) (omega arith))
     (window_is bits k (get_or bits (k / 8) 0) (get_or bits (k / 8 + 1) 0) refl refl (b (k / 8 + 1)))

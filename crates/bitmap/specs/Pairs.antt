@@ -2,7 +2,7 @@
 -- What contracts of private functions cite, and no rule.
 -- Assumes nothing.
 use Rattle.std.specs.Prelude.{◌≡◌, List, ℕ, ◌+◌, ◌-◌, ◌*◌, ◌/◌, ◌%◌, ◌^◌, ◌≤◌, length, get_or}
-use Rattle.pixels.specs.Framebuffer.{Picture, cell, put}
+use Rattle.pixels.specs.Framebuffer.{Picture, put}
 use Rattle.pixels.specs.Regions.{box}
 use Rattle.canvas.specs.Canvas.{masked}
 use Rattle.spans.specs.Bits.{packed_bit, blended_of, cell_bits}
@@ -32,10 +32,8 @@ put_pair i m b g = put (masked (i + 1) (m / 256)) (cell_bits (b / 256)) (put (ma
 unfoldable pub packed_from : ℕ → ℕ → ℕ → ℕ → List ℕ → Picture
 packed_from k x y w bits u v = packed_bit bits (k + (v - y) * w + (u - x))
 
--- of the first n rows those painted that lie above a row whose second byte is number `next`
-pub record RowsReached (x1 x2 n w first next : ℕ) (bits g₀ g : List ℕ) : Type 0 where
-  pub row : ℕ
-  pub at_byte : next ≡ cell x1 row + 1
+-- of the first n rows those above row `row` painted
+pub record RowsReached (x1 x2 n w first row : ℕ) (bits g₀ g : List ℕ) : Type 0 where
   pub high : row ≤ n
   pub long : length g ≡ length g₀
   pub shows : g ≡ put (box x1 x2 0 row) (packed_from first x1 0 w bits) g₀

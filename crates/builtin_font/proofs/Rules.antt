@@ -13,9 +13,9 @@ use Rattle.fonts.specs.Checks.{between}
 use Rattle.fonts.specs.Bitmaps.{packed_bytes}
 use Rattle.fonts.specs.Fonts.{nominal_width, height_of, first_of, last_of, offset_at, width_at, is_entry, are_entries, is_font}
 use Rattle.fonts.proofs.Laws.{and_left, and_right, font_taller}
-use Rattle.opened_font.specs.declared.Glyph.TheVariants.{At}
+use Rattle.std.specs.Prelude.{Some}
 use Rattle.opened_font.specs.Glyphs.{glyph_of}
-use Rattle.opened_font.proofs.Laws.{glyph_there}
+use Rattle.opened_font.proofs.Laws.{glyph, glyph_there}
 use Rattle.builtin_font.specs.Table.{table}
 use Rattle.builtin_font.specs.Shapes.{five_bytes, bits_at, shape_at, digit_shape, spare_at, from_last, pixel_of, differing, distance}
 use Rattle.builtin_font.proofs.Tests.{all_below, below, far_from, all_apart, places, no_distance}
@@ -176,10 +176,10 @@ only_blank k h e = different k 0 h (omega arith) (e ∙ sym blank)
 
 -- ---- the characters
 
-pub glyph_of_lem : (c : ℕ) → 32 ≤ c → c ≤ 126 → glyph_of table c ≡ At (289 + 5 * (c - 32)) 5 7
+pub glyph_of_lem : (c : ℕ) → 32 ≤ c → c ≤ 126 → glyph_of table c ≡ Some (glyph (289 + 5 * (c - 32)) 5 7)
 glyph_of_lem c h k =
     let r = right_at (c - 32) (omega arith) in
     let a : first_of table ≤ c = omega (arith, first_is) in
     let b : c ≤ last_of table = omega (arith, last_is) in
-    let g : glyph_of table c ≡ At (offset_at table (c - 32)) (width_at table (c - 32)) (height_of table) = rw first_is at (glyph_there table c a b) in
+    let g : glyph_of table c ≡ Some (glyph (offset_at table (c - 32)) (width_at table (c - 32)) (height_of table)) = rw first_is at (glyph_there table c a b) in
     g ∙ rw (r.offset, r.width, height_is)

@@ -3,19 +3,19 @@
 use mathlib.Core.Path.{◌≡◌, refl, sym, ◌∙◌}
 use mathlib.Core.Bool.{Bool, true, false, cond, ◌&&◌, ◌||◌, not, and-false}
 use mathlib.Core.List.{List}
-use Prim.Native.Nat.{ℕ, ◌+◌, ◌-◌, ◌*◌, ◌/◌, ◌%◌, ◌^◌, ◌<◌, ◌≤◌, min}
+use Prim.Native.Nat.{ℕ, ◌+◌, ◌-◌, ◌*◌, ◌/◌, ◌%◌, ◌^◌, ◌<◌, ◌≤◌}
 use native.Mathlib.Omega.{arith}
 use native.Mathlib.Decide.{ℕ_discrete}
-use lib.Dec.{eqb, ltb}
+use lib.Dec.{eqb}
 use lib.Bits.{bit_and, bit_or, and_le_l, or_lt}
 use lib.ListN.{length, get_or, set}
 use borrow.Author.Tests.{eq-eqb, ne_eqb, lt-ltb, le-ltb}
-use Rattle.pixels.specs.Framebuffer.{Picture, On, bit_of, byte_of, cell, pixel, black, repaint, put, fill, row_start, rows_end, width}
+use Rattle.pixels.specs.Framebuffer.{Picture, On, bit_of, byte_of, cell, pixel, black, repaint, put, fill, width}
 use Rattle.pixels.specs.Regions.{point}
 use Rattle.pixels.proofs.Bits.{byte_lt, byte_is, bit_byte, bit_or_lem, bit_and_lem, bit_not, bit_one}
-use Rattle.pixels.proofs.Pictures.{Bytes, set_is, pixel_behind}
+use Rattle.pixels.proofs.Pictures.{Bytes, set_is}
 use Rattle.pixels.proofs.Painting.{put_off, put_region}
-use Rattle.canvas.specs.Canvas.{masked, painted_of, RowsAre}
+use Rattle.canvas.specs.Canvas.{masked, painted_of}
 use Rattle.canvas.specs.Colour.{colour, colour_of}
 
 or_black : (a t : Bool) → (a || t) ≡ cond t true a
@@ -92,10 +92,6 @@ pub black_on : (g : List ℕ) (x y i : ℕ) → x < width → i ≡ cell x y →
 unfolding black pixel bit_of
 black_on g x y i h e = rw (e, lt-ltb x width h)
 
-pub black_below : (g : List ℕ) (x y i : ℕ) → i ≡ cell x y → length g ≤ i → false ≡ black g x y
-unfolding black
-black_below g x y i e l = sym (rw (pixel_behind g x y (omega arith)) (and-false (ltb x width)))
-
 pub black_right : (g : List ℕ) (x y : ℕ) → width ≤ x → false ≡ black g x y
 unfolding black
 black_right g x y h = sym (rw (le-ltb x width h))
@@ -107,23 +103,3 @@ zero_white n e = rw e
 
 pub non_zero_black : (n : ℕ) → (n ≡ 0 → ⊥) → colour true ≡ colour_of n
 non_zero_black n e = rw (ne_eqb n 0 e)
-
--- ---- rows to lend on
-
-pub rows_are : (n y1 y2 from to k : ℕ) → from ≡ row_start n y1 → to ≡ row_start n y2 → y1 < y2 → k ≡ (to - from + 30 - 1) / 30
-    → RowsAre n y1 y2 (record { from = from; to = to; count = k })
-rows_are n y1 y2 from to k ef et h ek =
-    record {
-      from_is = ef;
-      to_is = et ∙ sym later;
-      count_is = ek ∙ few (to - from) (y2 - y1) apart ∙ rw (later, ← ef, ← et);
-    }
-  where
-    later : rows_end n y1 y2 ≡ row_start n y2
-    later = omega arith
-
-    few : (s m : ℕ) → s ≤ 30 * m → (s + 30 - 1) / 30 ≡ min m ((s + 29) / 30)
-    few s m l = omega arith
-
-    apart : to - from ≤ 30 * (y2 - y1)
-    apart = rw (ef, et) (omega arith)

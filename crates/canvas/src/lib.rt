@@ -13,7 +13,7 @@ pub const WIDTH: u16 = 240;
 
 pub const STRIDE: usize = 30;
 
-// The two heights that there are, in rows, with their bytes.
+// The two heights that there are, in rows, with their bytes: cast by `as`, for a constant's value can call no `usize::from`.
 pub const LOW_HEIGHT: u8 = 64;
 
 pub const LOW_LENGTH: usize = STRIDE * (LOW_HEIGHT as usize);
@@ -22,22 +22,21 @@ pub const TALL_HEIGHT: u8 = 128;
 
 pub const TALL_LENGTH: usize = STRIDE * (TALL_HEIGHT as usize);
 
+#[tactic(auto, unfolding(crate::specs::Sizes::is_height))]
 pub fn is_height(height: u32) -> bool
     ensures { result ≡ is_height height }
 {
-    if height == LOW_HEIGHT as u32 {
-        return true;
-    }
-    height == TALL_HEIGHT as u32
+    height == u32::from(LOW_HEIGHT) || height == u32::from(TALL_HEIGHT)
 }
 
 // The bytes of so many rows.
 pub fn length_for(height: u8) -> usize
     ensures { result ≡ length_for height }
 {
-    STRIDE * (height as usize)
+    STRIDE * usize::from(height)
 }
 
+// A struct of a flag and no enum: the contracts of `stamp`, `plot` and the painters above read its field `black`.
 #[derive(Clone, Copy)]
 pub struct Colour {
     pub black: bool,
@@ -47,20 +46,19 @@ impl Colour {
     pub const BLACK: Colour = Colour { black: true };
 
     pub const WHITE: Colour = Colour { black: false };
+}
 
-    // 0 is white, any other byte black.
-    pub fn from_byte(byte: u8) -> Colour
-        ensures { result ≡ colour_of byte }
-    {
-        if byte == 0 {
-            Colour::WHITE
-        } else {
-            Colour::BLACK
-        }
+// 0 is white, any other byte black.
+impl From<u8> for Colour {
+    ghost from_gives = { λ byte c. c ≡ colour_of byte };
+
+    fn from(byte: u8) -> Colour {
+        Colour { black: byte != 0 }
     }
 }
 
 // A byte whose bits under the mask are in the colour c; the others stay.
+#[tactic(auto, using(crate::proofs::Strokes::paint_black, crate::proofs::Strokes::paint_white))]
 pub fn painted(byte: u8, mask: u8, c: Colour) -> u8
     ensures { result ≡ painted_of byte mask c.black }
 {
@@ -71,19 +69,22 @@ pub fn painted(byte: u8, mask: u8, c: Colour) -> u8
 pub fn cell(x: u16, y: u16) -> usize
     ensures { result ≡ cell x y }
 {
-    STRIDE * (y as usize) + (x / 8) as usize
+    STRIDE * usize::from(y) + usize::from(x / 8)
 }
 
 // Where a mask has a 1, the pixels of byte number `at`; beyond the framebuffer nothing.
+#[tactic(auto, using(crate::proofs::Strokes::stamp_on, crate::proofs::Strokes::stamp_off))]
 pub fn stamp(framebuffer: &mut [u8], at: usize, mask: u8, c: Colour)
     ensures { framebuffer.new ≡ fill (masked at mask) c.black framebuffer.old }
 {
+    // By number: what stands in the slice after a write through `get_mut` doesn't prove, since its contract leaves that open.
     if at < framebuffer.len() {
         framebuffer[at] = painted(framebuffer[at], mask, c);
     }
 }
 
 // One pixel; beyond the framebuffer nothing.
+#[tactic(auto, using(crate::proofs::Strokes::plot_on, crate::proofs::Strokes::plot_off))]
 pub fn plot(framebuffer: &mut [u8], x: u16, y: u16, c: Colour)
     ensures { framebuffer.new ≡ fill (point x y) c.black framebuffer.old }
 {
@@ -93,16 +94,12 @@ pub fn plot(framebuffer: &mut [u8], x: u16, y: u16, c: Colour)
 }
 
 // Whether a pixel is black; beyond the framebuffer all are white.
+#[tactic(auto, using(crate::proofs::Strokes::black_on, crate::proofs::Strokes::black_right))]
 pub fn is_black(framebuffer: &[u8], x: u16, y: u16) -> bool
     ensures { result ≡ black framebuffer.now x y }
 {
-    if x < WIDTH {
-        let at = cell(x, y);
-        if at < framebuffer.len() {
-            return (framebuffer[at] >> (7 - x % 8)) % 2 == 1;
-        }
-    }
-    false
+    let byte = framebuffer.get(cell(x, y)).copied().unwrap_or(0);
+    x < WIDTH && (byte >> (7 - x % 8)) % 2 == 1
 }
 
 // Rows of a framebuffer to lend on: their first byte, the byte behind them, and how many they are.
@@ -117,8 +114,7 @@ pub struct Rows {
 fn row_start(len: usize, y: u16) -> usize
     ensures { result ≡ row_start len y }
 {
-    let at = STRIDE * (y as usize);
-    if at < len { at } else { len }
+    len.min(STRIDE * usize::from(y))
 }
 
 // Rows y1 up to, and not with, y2 of a framebuffer of `len` bytes, as far as it has them.
@@ -126,25 +122,7 @@ pub fn rows_between(len: usize, y1: u16, y2: u16) -> Rows
     ensures { RowsAre len y1 y2 result }
 {
     let from = row_start(len, y1);
-    if y2 <= y1 {
-        return Rows {
-            from: from,
-            to: from,
-            count: 0,
-        };
-    }
-    let to = row_start(len, y2);
-    let held = (to - from + STRIDE - 1) / STRIDE;
-    Rows {
-        from: from,
-        to: to,
-        count: held as u16,
-    }
-}
-
-// The lesser of two coordinates.
-pub fn least(a: u16, b: u16) -> u16
-    ensures { result ≡ min a b }
-{
-    if a < b { a } else { b }
+    let to = row_start(len, y2).max(from);
+    let count = (to - from).div_ceil(STRIDE) as u16;
+    Rows { from, to, count }
 }

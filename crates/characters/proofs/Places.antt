@@ -5,10 +5,11 @@ use mathlib.Core.Bool.{Bool, true, false, cond, not, ◌&&◌}
 use mathlib.Core.List.{List, []}
 use native.Mathlib.Omega.{arith}
 use Prim.Native.Nat.{ℕ, zero, suc, ◌+◌, ◌-◌, ◌*◌, ◌/◌, ◌%◌, ◌<◌, ◌≤◌}
-use lib.Dec.{eqb, leb}
+use lib.Dec.{leb}
 use lib.ListN.{get_or, drop}
 use lib.Seq.{get_or-drop}
-use borrow.Author.Tests.{eq-eqb, ne_eqb, le-leb, lt-leb, leb-true}
+use borrow.Author.Tests.{le-leb, lt-leb, leb-true}
+use Rattle.std.specs.Prelude.{Option, Some, None}
 use Rattle.file_laws.proofs.Written.{and_both}
 use Rattle.pixels.specs.Framebuffer.{bit_of, width, put, fill}
 use Rattle.pixels.specs.Regions.{within, box}
@@ -16,84 +17,83 @@ use Rattle.pixels.proofs.Intervals.{within_true}
 use Rattle.pixels.proofs.Painting.{put_same}
 use Rattle.spans.specs.Bits.{packed_bit}
 use Rattle.bitmap.specs.Bitmaps.{packed, packed_box}
-use Rattle.scroll.specs.Scroll.{scrolled}
 use Rattle.fonts.specs.Fonts.{nominal_width, height_of}
 use Rattle.opened_font.specs.declared.Glyph.{Glyph}
-use Rattle.opened_font.specs.declared.Glyph.TheVariants.{At as GlyphAt, Missing}
 use Rattle.opened_font.specs.Glyphs.{glyph_of}
 use Rattle.opened_font.proofs.Laws.{glyph_missing}
 use Rattle.builtin_font.specs.Table.{table}
 use Rattle.builtin_font.specs.Shapes.{five_from, rows_of}
 use Rattle.builtin_font.proofs.Rules.{width_is, height_is, first_is, last_is, glyph_of_lem}
 use Rattle.builtin_font.proofs.Characters.{rows_are}
-use Rattle.state.specs.declared.Port.{Port}
 use Rattle.state.specs.declared.State.{State}
 use Rattle.state.specs.declared.Text.{Text}
-use Rattle.state.specs.State.{with_text}
-use Rattle.outcome.specs.declared.Outcome.{Outcome}
-use Rattle.outcome.specs.Outcome.{done_of}
 use Rattle.rules.specs.World.{World, world, port, with_framebuffer, put_text, quietly, refused}
 use Rattle.rules.specs.Fonts.{opened, shut, open_font}
 use Rattle.rules.specs.Text.{at_point, Place as Ruled, place, nowhere, wrapped, fitted, moved_up, is_ignored, Ink, rows, solid, inked, drawn, missing, drawn_by, drawn_at, drawn_on, character_in, character}
 use Rattle.characters.specs.declared.Place.{Place}
-use Rattle.characters.specs.declared.Place.TheVariants.{At, Nowhere}
 use Rattle.characters.specs.Places.{place_of, moved_for}
+
+abbrev pub at : ℕ → ℕ → ℕ → Place
+at x y u = record { x = x; y = y; up = u }
 
 -- ---- the wrap
 
 module _ (t : Text) (v f x y u : ℕ) where
-  pub wrap_here : x ≡ t.x → y ≡ t.y → u ≡ 0 → t.x + v ≤ width → At x y u ≡ place_of (wrapped t v f)
+  pub wrap_here : x ≡ t.x → y ≡ t.y → u ≡ 0 → t.x + v ≤ width → Some (at x y u) ≡ place_of (wrapped t v f)
   unfolding wrapped place_of
   wrap_here ex ey eu a = rw (le-leb (t.x + v) width a, ex, ey, eu)
 
   module _ (far : width < t.x + v) where
-    pub wrap_nowhere : not t.wrap ≡ true → Nowhere ≡ place_of (wrapped t v f)
+    pub wrap_nowhere : not t.wrap ≡ true → None ≡ place_of (wrapped t v f)
     unfolding wrapped place_of
     wrap_nowhere a = rw (lt-leb (t.x + v) width far, a)
 
     module _ (on : not t.wrap ≡ false) (ex : x ≡ t.left) where
-      pub wrap_below : y ≡ t.y + f + t.line_space → u ≡ 0 → t.y + f + t.line_space + f ≤ t.scroll_row → At x y u ≡ place_of (wrapped t v f)
+      pub wrap_below : y ≡ t.y + f + t.line_space → u ≡ 0 → t.y + f + t.line_space + f ≤ t.scroll_row → Some (at x y u) ≡ place_of (wrapped t v f)
       unfolding wrapped place_of
       wrap_below ey eu a = rw (lt-leb (t.x + v) width far, on, le-leb (t.y + f + t.line_space + f) t.scroll_row a, ex, ey, eu)
 
       module _ (low : t.scroll_row < t.y + f + t.line_space + f) where
-        pub wrap_up : y ≡ t.y → u ≡ f + t.line_space → t.scroll ≡ true → At x y u ≡ place_of (wrapped t v f)
+        pub wrap_up : y ≡ t.y → u ≡ f + t.line_space → t.scroll ≡ true → Some (at x y u) ≡ place_of (wrapped t v f)
         unfolding wrapped place_of
         wrap_up ey eu b = rw (lt-leb (t.x + v) width far, on, lt-leb (t.y + f + t.line_space + f) t.scroll_row low, b, ex, ey, eu)
 
-        pub wrap_top : y ≡ t.top → u ≡ 0 → t.scroll ≡ false → At x y u ≡ place_of (wrapped t v f)
+        pub wrap_top : y ≡ t.top → u ≡ 0 → t.scroll ≡ false → Some (at x y u) ≡ place_of (wrapped t v f)
         unfolding wrapped place_of
         wrap_top ey eu b = rw (lt-leb (t.x + v) width far, on, lt-leb (t.y + f + t.line_space + f) t.scroll_row low, b, ex, ey, eu)
 
 -- ---- the room
 
-at_is : (p : Ruled) (x y u : ℕ) → place_of p ≡ At x y u → p ≡ place x y u
-unfolding place_of
-at_is (place a b c) x y u e = cc
-at_is nowhere x y u e = cc
+same_place : {c o : Place} → Some c ≡ Some o → c ≡ o
+same_place e = cc
 
-nowhere_is : (p : Ruled) → place_of p ≡ Nowhere → p ≡ nowhere
+at_is : (p : Ruled) (o : Place) → place_of p ≡ Some o → p ≡ place o.x o.y o.up
+unfolding place_of
+at_is (place a b c) o e = ap (λ (q : Place). place q.x q.y q.up) (same_place e)
+at_is nowhere o e = cc
+
+nowhere_is : (p : Ruled) → place_of p ≡ None → p ≡ nowhere
 unfolding place_of
 nowhere_is (place a b c) e = cc
 nowhere_is nowhere e = refl
 
-module _ (h v f : ℕ) (p : Ruled) (c : Place) (found : c ≡ place_of p) where
-  pub room_nowhere : c ≡ Nowhere → Nowhere ≡ place_of (fitted h v f p)
+module _ (h v f : ℕ) (p : Ruled) (c : Option Place) (found : c ≡ place_of p) where
+  pub room_nowhere : c ≡ None → None ≡ place_of (fitted h v f p)
   unfolding fitted place_of
   room_nowhere e = rw (nowhere_is p (sym found ∙ e))
 
-  module _ (x y u : ℕ) (here : c ≡ At x y u) where
-    pub room_right : width < x + v → Nowhere ≡ place_of (fitted h v f p)
+  module _ (o : Place) (here : c ≡ Some o) where
+    pub room_right : width < o.x + v → None ≡ place_of (fitted h v f p)
     unfolding fitted place_of
-    room_right a = rw (at_is p x y u (sym found ∙ here), lt-leb (x + v) width a)
+    room_right a = rw (at_is p o (sym found ∙ here), lt-leb (o.x + v) width a)
 
-    pub room_below : x + v ≤ width → h < y + f → Nowhere ≡ place_of (fitted h v f p)
+    pub room_below : o.x + v ≤ width → h < o.y + f → None ≡ place_of (fitted h v f p)
     unfolding fitted place_of
-    room_below a b = rw (at_is p x y u (sym found ∙ here), le-leb (x + v) width a, lt-leb (y + f) h b)
+    room_below a b = rw (at_is p o (sym found ∙ here), le-leb (o.x + v) width a, lt-leb (o.y + f) h b)
 
-    pub room_here : x + v ≤ width → y + f ≤ h → At x y u ≡ place_of (fitted h v f p)
+    pub room_here : o.x + v ≤ width → o.y + f ≤ h → Some o ≡ place_of (fitted h v f p)
     unfolding fitted place_of
-    room_here a b = rw (at_is p x y u (sym found ∙ here), le-leb (x + v) width a, le-leb (y + f) h b)
+    room_here a b = rw (at_is p o (sym found ∙ here), le-leb (o.x + v) width a, le-leb (o.y + f) h b)
 
 -- what a place with room gives
 pub record Fits (h v f x y : ℕ) : Type 0 where
@@ -113,63 +113,51 @@ unfolding fitted
 room_fits h v f (place a b c) x y u e = fits_by h v f a b c x y u (leb (a + v) width && leb (b + f) h) refl e
 room_fits h v f nowhere x y u e = let z : ◌≡◌ {A = ℕ} 0 1 = cc in absurd (omega arith)
 
-pub fits : (h v f : ℕ) (p : Ruled) (c : Place) (x y u : ℕ) → c ≡ place_of (fitted h v f p) → c ≡ At x y u → Fits h v f x y
-fits h v f p c x y u e d = room_fits h v f p x y u (at_is (fitted h v f p) x y u (sym e ∙ d))
+pub fits : (h v f : ℕ) (p : Ruled) (c : Option Place) (o : Place) → c ≡ place_of (fitted h v f p) → c ≡ Some o → Fits h v f o.x o.y
+fits h v f p c o e d = room_fits h v f p o.x o.y o.up (at_is (fitted h v f p) o (sym e ∙ d))
 
 -- ---- the character
 
-pub up_some : (n : ℕ) (g g' : List ℕ) → 0 < n → g' ≡ scrolled n g → g' ≡ moved_up n g
-up_some n g g' a e = e ∙ rw (ne_eqb n 0 (λ z. absurd (omega arith)))
-
-pub up_none : (n : ℕ) (g : List ℕ) → n ≤ 0 → g ≡ moved_up n g
-up_none n g a = rw (eq-eqb n 0 (omega arith))
-
-pub room_none : (c : Place) (p : Ruled) (g : List ℕ) → c ≡ place_of p → c ≡ Nowhere → (Nowhere ≡ place_of p) × (g ≡ moved_for Nowhere g)
+pub room_none : (c : Option Place) (p : Ruled) (g : List ℕ) → c ≡ place_of p → c ≡ None → (None ≡ place_of p) × (g ≡ moved_for None g)
 unfolding moved_for
 room_none c p g f e = (sym e ∙ f, refl)
 
-pub room_made : (c : Place) (p : Ruled) (x y u : ℕ) (g h : List ℕ) → c ≡ place_of p → c ≡ At x y u → h ≡ moved_up u g → (At x y u ≡ place_of p) × (h ≡ moved_for (At x y u) g)
+pub room_made : (c : Option Place) (p : Ruled) (o : Place) (g h : List ℕ) → c ≡ place_of p → c ≡ Some o → h ≡ moved_up o.up g → (Some o ≡ place_of p) × (h ≡ moved_for (Some o) g)
 unfolding moved_for
-room_made c p x y u g h f e m = (sym e ∙ f, m)
+room_made c p o g h f e m = (sym e ∙ f, m)
 
-moved_by : (c : Place) (x y u : ℕ) (g h : List ℕ) → c ≡ At x y u → h ≡ moved_for c g → h ≡ moved_up u g
+moved_by : (c : Option Place) (o : Place) (g h : List ℕ) → c ≡ Some o → h ≡ moved_for c g → h ≡ moved_up o.up g
 unfolding moved_for
-moved_by c x y u g h e f = f ∙ rw e
+moved_by c o g h e f = f ∙ rw e
 
-pub moved_none : (c : Place) (g h : List ℕ) → c ≡ Nowhere → h ≡ moved_for c g → h ≡ g
+pub moved_none : (c : Option Place) (g h : List ℕ) → c ≡ None → h ≡ moved_for c g → h ≡ g
 unfolding moved_for
 moved_none c g h e f = f ∙ rw e
 
-module _ (g s : List ℕ) (st : State) (i : Ink) (v f : ℕ) (c : Place) (found : c ≡ place_of (fitted st.config.height v f (wrapped st.port.text v f))) where
-  pub drawn_29 : c ≡ Nowhere → drawn_on (world g s st) (drawn i v f) ≡ refused 29 []
+module _ (g s : List ℕ) (st : State) (i : Ink) (v f : ℕ) (c : Option Place) (found : c ≡ place_of (fitted st.config.height v f (wrapped st.port.text v f))) where
+  pub drawn_29 : c ≡ None → drawn_on (world g s st) (drawn i v f) ≡ refused 29 []
   unfolding drawn_on drawn_at
   drawn_29 e = rw (nowhere_is (fitted st.config.height v f (wrapped st.port.text v f)) (sym found ∙ e))
 
-  pub drawn_done : (x y u : ℕ) (g' g'' : List ℕ) → c ≡ At x y u → g' ≡ moved_for c g → g'' ≡ put (box x (x + v) y (y + f)) (inked i x y v) g'
-      → drawn_on (world g s st) (drawn i v f) ≡ quietly (put_text (world g'' s st) (at_point st.port.text (x + v + st.port.text.char_space) y))
+  pub drawn_done : (o : Place) (g' g'' : List ℕ) → c ≡ Some o → g' ≡ moved_for c g → g'' ≡ put (box o.x (o.x + v) o.y (o.y + f)) (inked i o.x o.y v) g'
+      → drawn_on (world g s st) (drawn i v f) ≡ quietly (put_text (world g'' s st) (at_point st.port.text (o.x + v + st.port.text.char_space) o.y))
   unfolding drawn_on drawn_at
-  drawn_done x y u g' g'' e up paint =
-      rw (at_is (fitted st.config.height v f (wrapped st.port.text v f)) x y u (sym found ∙ e), paint, moved_by c x y u g g' e up)
+  drawn_done o g' g'' e up paint = rw (at_is (fitted st.config.height v f (wrapped st.port.text v f)) o (sym found ∙ e), paint, moved_by c o g g' e up)
 
 -- all of a box black
-pub box_filled : (x y v f a d : ℕ) (g h : List ℕ) → a ≡ v → d ≡ f → h ≡ fill (box x (x + a) y (y + d)) true g → h ≡ put (box x (x + v) y (y + f)) (inked solid x y v) g
-box_filled x y v f a d g h ea ed e = e ∙ rw (ea, ed)
-
--- the text point behind it
-pub moved_on : (p q : Port) (x y v a d : ℕ) (r : Outcome) → a ≡ v → d ≡ p.text.char_space → q ≡ with_text p (at_point p.text (x + a + d) y) → r ≡ done_of q
-    → r ≡ done_of (with_text p (at_point p.text (x + v + p.text.char_space) y))
-moved_on p q x y v a d r ea ed e f = f ∙ rw (e, ea, ed)
+pub box_filled : (x y v f a b d : ℕ) (g h : List ℕ) → a ≡ v → b ≡ y → d ≡ f → h ≡ fill (box x (x + a) b (b + d)) true g → h ≡ put (box x (x + v) y (y + f)) (inked solid x y v) g
+box_filled x y v f a b d g h ea eb ed e = e ∙ rw (ea, eb, ed)
 
 -- ---- of a font's file
 
-module _ (w : World) (b : ℕ) (l : List ℕ) (q : Glyph) (glyph : q ≡ glyph_of l b) where
-  pub draw_lacked : (v f : ℕ) → q ≡ Missing → v ≡ nominal_width l → f ≡ height_of l → character_in w b (opened l) ≡ drawn_on w (missing b v f)
+module _ (w : World) (b : ℕ) (l : List ℕ) (q : Option Glyph) (glyph : q ≡ glyph_of l b) where
+  pub draw_lacked : (v f : ℕ) → q ≡ None → v ≡ nominal_width l → f ≡ height_of l → character_in w b (opened l) ≡ drawn_on w (missing b v f)
   unfolding character_in drawn_by
   draw_lacked v f e ev ef = rw (← glyph, e, ev, ef)
 
-  pub draw_there : (o v f : ℕ) (bits : List ℕ) → q ≡ GlyphAt o v f → bits ≡ drop o l → character_in w b (opened l) ≡ drawn_on w (drawn (rows bits) v f)
+  pub draw_there : (k : Glyph) (bits : List ℕ) → q ≡ Some k → bits ≡ drop k.offset l → character_in w b (opened l) ≡ drawn_on w (drawn (rows bits) k.width k.height)
   unfolding character_in drawn_by
-  draw_there o v f bits e d = rw (← glyph, e, d)
+  draw_there k bits e d = rw (← glyph, e, d)
 
 -- ---- of the built-in font, from its five bytes
 
@@ -201,7 +189,7 @@ five_glyph w o (place x y u) =
 five_glyph w o nowhere = refl
 
 module _ (w : World) (b : ℕ) where
-  no_glyph_lem : (leb 32 b && leb b 126) ≡ false → glyph_of table b ≡ Missing
+  no_glyph_lem : (leb 32 b && leb b 126) ≡ false → glyph_of table b ≡ None
   no_glyph_lem e = glyph_missing table b (rw (first_is, last_is) e)
 
   pub built_in_lacked : (t : Bool) → t ≡ (leb 32 b && leb b 126) → t ≡ false → character_in w b (opened table) ≡ drawn_on w (missing b 5 7)
@@ -215,24 +203,7 @@ module _ (w : World) (b : ℕ) where
       let k = leb-true b 126 q.1 in
       rw (glyph_of_lem b h k, e, rows_are b h k) (five_glyph w (289 + 5 * (b - 32)) _)
 
-module _ (b : ℕ) where
-  pub built_in_before : b < 32 → false ≡ (leb 32 b && leb b 126)
-  built_in_before h = rw (lt-leb 32 b h)
-
-  pub built_in_behind : 32 ≤ b → leb b 126 ≡ (leb 32 b && leb b 126)
-  built_in_behind h = rw (le-leb 32 b h)
-
 -- ---- that a font lacks
-
-module _ (b : ℕ) where
-  pub ignored_13 : b ≡ 13 → true ≡ is_ignored b
-  ignored_13 e = rw (eq-eqb b 13 e)
-
-  pub ignored_10 : (b ≡ 13 → ⊥) → b ≡ 10 → true ≡ is_ignored b
-  ignored_10 f e = rw (ne_eqb b 13 f, eq-eqb b 10 e)
-
-  pub ignored_8 : (b ≡ 13 → ⊥) → (b ≡ 10 → ⊥) → eqb b 8 ≡ is_ignored b
-  ignored_8 f h = rw (ne_eqb b 13 f, ne_eqb b 10 h)
 
 module _ (w : World) (b v f : ℕ) (t : Bool) (found : t ≡ is_ignored b) where
   pub missing_ignored : t ≡ true → drawn_on w (missing b v f) ≡ quietly w

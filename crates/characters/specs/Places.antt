@@ -1,16 +1,15 @@
 -- The code's place of a character, from the rules' one.
 -- What contracts of private functions cite, and no rule.
 -- Assumes nothing.
-use Rattle.std.specs.Prelude.{List, ℕ}
+use Rattle.std.specs.Prelude.{List, Option, None, Some, ℕ}
 use Rattle.rules.specs.Text.{Place as Ruled, place, nowhere, moved_up}
 use Rattle.characters.specs.declared.Place.{Place}
-use Rattle.characters.specs.declared.Place.TheVariants.{At, Nowhere}
 
-unfoldable pub place_of : Ruled → Place
-place_of (place x y up) = At x y up
-place_of nowhere = Nowhere
+unfoldable pub place_of : Ruled → Option Place
+place_of (place x y up) = Some (record { x = x; y = y; up = up })
+place_of nowhere = None
 
 -- the framebuffer as a character at this place finds it
-unfoldable pub moved_for : Place → List ℕ → List ℕ
-moved_for (At x y up) g = moved_up up g
-moved_for Nowhere g = g
+unfoldable pub moved_for : Option Place → List ℕ → List ℕ
+moved_for (Some p) g = moved_up p.up g
+moved_for None g = g

@@ -1,7 +1,7 @@
 // Characters: where each goes, and what is drawn there. One that the font lacks is a black box, or is ignored.
 #![tactic(auto)]
 
-ghost use Rattle.std.specs.Prelude.{◌≡◌, ◌&&◌, ◌+◌, ◌<◌, ◌≤◌, leb};
+ghost use Rattle.std.specs.Prelude.{◌≡◌, ◌+◌, ◌≤◌};
 ghost use Rattle.builtin_font.specs.Table.{table};
 ghost use Rattle.state.specs.State.{with_text};
 ghost use Rattle.rules.specs.Text.{at_point, wrapped, fitted, moved_up, is_ignored, rows, solid, drawn, missing, drawn_on, character_in, character};
@@ -14,13 +14,13 @@ use bitmap::paint_packed;
 use canvas::{Colour, WIDTH};
 use directory::{part, rest};
 use fonts::nominal_width;
-use opened_font::{Glyph, glyph_of};
+use opened_font::glyph_of;
 use outcome::{Outcome, done, put_text, refused};
 use rectangle::fill_box;
-use refusals::GLYPH_DOES_NOT_FIT;
+use refusals::Refusal;
 use scroll::scroll_up;
 use state::{Port, Text};
-use text::{Source, find_font, long, wide};
+use text::{Source, find_font};
 
 const CARRIAGE_RETURN: u8 = 13;
 
@@ -28,72 +28,70 @@ const LINE_FEED: u8 = 10;
 
 const BACKSPACE: u8 = 8;
 
-// Where a character goes, and by how many rows the framebuffer moves up first.
+// The size of the box that a character is drawn in.
 #[derive(Clone, Copy)]
-enum Place {
-    At { x: u16, y: u16, up: u16 },
-    Nowhere,
+struct Size {
+    width: u8,
+    height: u8,
 }
 
-fn word(x: u8) -> u16
-    ensures { (result ≡ x) × (result < 256) }
-{
-    x as u16
+// Where a character goes, and by how many rows the framebuffer moves up first.
+#[derive(Clone, Copy)]
+struct Place {
+    x: u16,
+    y: u8,
+    up: u16,
 }
 
 // A character that passes the last column goes to the next line, onto the framebuffer moved up, or to the top.
-fn wrapped(text: Text, width: u8, tall: u8) -> Place
-    ensures { result ≡ place_of (wrapped text width tall) }
+fn wrapped(text: Text, size: Size) -> Option<Place>
+    ensures { result ≡ place_of (wrapped text size.width size.height) }
 {
-    let y = word(text.y);
-    if wide(text.x) + long(width) <= wide(WIDTH) {
-        return Place::At {
+    if u32::from(text.x) + u32::from(size.width) <= u32::from(WIDTH) {
+        return Some(Place {
             x: text.x,
-            y: y,
+            y: text.y,
             up: 0,
-        };
+        });
     }
     if !text.wrap {
-        return Place::Nowhere;
+        return None;
     }
-    let left = word(text.left);
-    let below = y + word(tall) + word(text.line_space);
-    if below + word(tall) <= word(text.scroll_row) {
-        return Place::At {
+    let left = u16::from(text.left);
+    let line = u16::from(size.height) + u16::from(text.line_space);
+    let below = u16::from(text.y) + line;
+    if below + u16::from(size.height) <= u16::from(text.scroll_row) {
+        return Some(Place {
             x: left,
-            y: below,
+            y: below as u8,
             up: 0,
-        };
+        });
     }
     if text.scroll {
-        return Place::At {
+        return Some(Place {
             x: left,
-            y: y,
-            up: word(tall) + word(text.line_space),
-        };
+            y: text.y,
+            up: line,
+        });
     }
-    Place::At {
+    Some(Place {
         x: left,
-        y: word(text.top),
+        y: text.top,
         up: 0,
-    }
+    })
 }
 
 // Nowhere, too, if the box then passes the last column or the last row.
-fn place_for(text: Text, width: u8, tall: u8, height: u8) -> Place
-    ensures { result ≡ place_of (fitted height width tall (wrapped text width tall)) }
+fn place_for(text: Text, size: Size, height: u8) -> Option<Place>
+    ensures { result ≡ place_of (fitted height size.width size.height (wrapped text size.width size.height)) }
 {
-    let place = wrapped(text, width, tall);
-    let Place::At { x, y, up } = place else {
-        return Place::Nowhere;
-    };
-    if wide(x) + long(width) > wide(WIDTH) {
-        return Place::Nowhere;
+    let place = wrapped(text, size)?;
+    if u32::from(place.x) + u32::from(size.width) > u32::from(WIDTH)
+        || u16::from(place.y) + u16::from(size.height) > u16::from(height)
+    {
+        return None;
     }
-    if wide(y) + long(tall) > long(height) {
-        return Place::Nowhere;
-    }
-    Place::At { x: x, y: y, up: up }
+    Some(place)
 }
 
 fn move_up(framebuffer: &mut [u8], rows: u16)
@@ -105,140 +103,109 @@ fn move_up(framebuffer: &mut [u8], rows: u16)
 }
 
 // The place of a character of this size, on the framebuffer moved up for it.
-fn make_room(framebuffer: &mut [u8], text: Text, width: u8, tall: u8, height: u8) -> Place
-    ensures { (result ≡ place_of (fitted height width tall (wrapped text width tall))) × (framebuffer.new ≡ moved_for result framebuffer.old) }
+fn make_room(framebuffer: &mut [u8], text: Text, size: Size, height: u8) -> Option<Place>
+    ensures { (result ≡ place_of (fitted height size.width size.height (wrapped text size.width size.height))) × (framebuffer.new ≡ moved_for result framebuffer.old) }
 {
-    let place = place_for(text, width, tall, height);
-    let Place::At { x, y, up } = place else {
-        return Place::Nowhere;
-    };
-    move_up(framebuffer, up);
-    Place::At { x: x, y: y, up: up }
+    let place = place_for(text, size, height)?;
+    move_up(framebuffer, place.up);
+    Some(place)
 }
 
 // The text point behind a character of this width at (x, y).
-fn move_on(port: Port, x: u16, y: u16, width: u8) -> Outcome
-    requires { (x + width ≤ 240) × (y < 256) }
+fn move_on(port: Port, x: u16, y: u8, width: u8) -> Outcome
+    requires { x + width ≤ 240 }
     ensures { result ≡ done_of (with_text port (at_point port.text (x + width + port.text.char_space) y)) }
 {
-    let mut text = port.text;
-    text.x = x + word(width) + word(text.char_space);
-    text.y = y as u8;
+    let text = Text {
+        x: x + u16::from(width) + u16::from(port.text.char_space),
+        y,
+        ..port.text
+    };
     done(put_text(port, text))
 }
 
 // A glyph of this size from its packed rows.
-fn draw_glyph(
-    framebuffer: &mut [u8],
-    port: Port,
-    height: u8,
-    width: u8,
-    tall: u8,
-    bits: &[u8],
-) -> Outcome
-    ensures { Obeys (told height) (λ w. drawn_on w (drawn (rows bits.now) width tall)) port (lent framebuffer.old framebuffer.new) unlent unlent result }
+fn draw_glyph(framebuffer: &mut [u8], port: Port, height: u8, size: Size, bits: &[u8]) -> Outcome
+    ensures { Obeys (told height) (λ w. drawn_on w (drawn (rows bits.now) size.width size.height)) port (lent framebuffer.old framebuffer.new) unlent unlent result }
 {
-    let place = make_room(framebuffer, port.text, width, tall, height);
-    let Place::At { x, y, up: _ } = place else {
-        return refused(port, GLYPH_DOES_NOT_FIT);
+    let Some(Place { x, y, .. }) = make_room(framebuffer, port.text, size, height) else {
+        return refused(port, Refusal::GlyphDoesNotFit);
     };
-    paint_packed(framebuffer, x, y as u8, width, tall, bits);
-    move_on(port, x, y, width)
+    paint_packed(framebuffer, x, y, size.width, size.height, bits);
+    move_on(port, x, y, size.width)
 }
 
 // A black box of this size.
-fn draw_box(framebuffer: &mut [u8], port: Port, height: u8, width: u8, tall: u8) -> Outcome
-    ensures { Obeys (told height) (λ w. drawn_on w (drawn solid width tall)) port (lent framebuffer.old framebuffer.new) unlent unlent result }
+fn draw_box(framebuffer: &mut [u8], port: Port, height: u8, size: Size) -> Outcome
+    ensures { Obeys (told height) (λ w. drawn_on w (drawn solid size.width size.height)) port (lent framebuffer.old framebuffer.new) unlent unlent result }
 {
-    let place = make_room(framebuffer, port.text, width, tall, height);
-    let Place::At { x, y, up: _ } = place else {
-        return refused(port, GLYPH_DOES_NOT_FIT);
+    let Some(Place { x, y, .. }) = make_room(framebuffer, port.text, size, height) else {
+        return refused(port, Refusal::GlyphDoesNotFit);
     };
+    let top = u16::from(y);
     fill_box(
         framebuffer,
         x,
-        x + word(width),
-        y,
-        y + word(tall),
+        x + u16::from(size.width),
+        top,
+        top + u16::from(size.height),
         Colour::BLACK,
     );
-    move_on(port, x, y, width)
+    move_on(port, x, y, size.width)
 }
 
 // Whether a character is ignored where the font lacks it.
 fn is_ignored(byte: u8) -> bool
     ensures { result ≡ is_ignored byte }
 {
-    if byte == CARRIAGE_RETURN {
-        return true;
-    }
-    if byte == LINE_FEED {
-        return true;
-    }
-    byte == BACKSPACE
+    matches!(byte, CARRIAGE_RETURN | LINE_FEED | BACKSPACE)
 }
 
 // A character that a font of this nominal width and height lacks.
-fn draw_missing(
-    framebuffer: &mut [u8],
-    port: Port,
-    height: u8,
-    width: u8,
-    tall: u8,
-    byte: u8,
-) -> Outcome
-    ensures { Obeys (told height) (λ w. drawn_on w (missing byte width tall)) port (lent framebuffer.old framebuffer.new) unlent unlent result }
+fn draw_missing(framebuffer: &mut [u8], port: Port, height: u8, size: Size, byte: u8) -> Outcome
+    ensures { Obeys (told height) (λ w. drawn_on w (missing byte size.width size.height)) port (lent framebuffer.old framebuffer.new) unlent unlent result }
 {
     if is_ignored(byte) {
         return done(port);
     }
-    draw_box(framebuffer, port, height, width, tall)
+    draw_box(framebuffer, port, height, size)
 }
 
 // A character of a font's file, which is opened for it.
 fn draw_in(framebuffer: &mut [u8], port: Port, height: u8, file: &[u8], byte: u8) -> Outcome
     ensures { Obeys (told height) (λ w. character_in w byte (opened file.now)) port (lent framebuffer.old framebuffer.new) unlent unlent result }
 {
-    let glyph = glyph_of(file, byte);
-    let Glyph::At {
-        offset,
-        width,
-        height: tall,
-    } = glyph
-    else {
-        return draw_missing(
-            framebuffer,
-            port,
-            height,
-            nominal_width(file),
-            fonts::height(file),
-            byte,
-        );
-    };
-    draw_glyph(framebuffer, port, height, width, tall, rest(file, offset))
-}
-
-// Whether the built-in font has a character.
-fn is_built_in(byte: u8) -> bool
-    ensures { result ≡ (leb 32 byte && leb byte 126) }
-{
-    if byte < builtin_font::FIRST {
-        return false;
+    match glyph_of(file, byte) {
+        Some(glyph) => {
+            let size = Size {
+                width: glyph.width,
+                height: glyph.height,
+            };
+            draw_glyph(framebuffer, port, height, size, rest(file, glyph.offset))
+        }
+        None => {
+            let size = Size {
+                width: nominal_width(file),
+                height: fonts::height(file),
+            };
+            draw_missing(framebuffer, port, height, size, byte)
+        }
     }
-    byte <= builtin_font::LAST
 }
 
 // A character of the built-in font.
 fn draw_built_in(framebuffer: &mut [u8], port: Port, height: u8, byte: u8) -> Outcome
     ensures { Obeys (told height) (λ w. character_in w byte (opened table)) port (lent framebuffer.old framebuffer.new) unlent unlent result }
 {
-    let width = builtin_font::WIDTH;
-    let tall = builtin_font::HEIGHT;
-    if is_built_in(byte) {
+    let size = Size {
+        width: builtin_font::WIDTH,
+        height: builtin_font::HEIGHT,
+    };
+    if (builtin_font::FIRST..=builtin_font::LAST).contains(&byte) {
         let rows = builtin_font::rows(byte);
-        return draw_glyph(framebuffer, port, height, width, tall, &rows);
+        return draw_glyph(framebuffer, port, height, size, &rows);
     }
-    draw_missing(framebuffer, port, height, width, tall, byte)
+    draw_missing(framebuffer, port, height, size, byte)
 }
 
 // Any byte but 254 outside a command.
@@ -251,12 +218,11 @@ pub fn draw_character(
 ) -> Outcome
     ensures { Obeys (told height) (λ w. character w byte) port (lent framebuffer.old framebuffer.new) (lent store.now store.now) unlent result }
 {
-    let source = find_font(store, height, port.text.font);
-    match source {
-        Source::BuiltIn => draw_built_in(framebuffer, port, height, byte),
-        Source::Stored { start, size } => {
+    match find_font(store, height, port.text.font) {
+        Ok(Source::BuiltIn) => draw_built_in(framebuffer, port, height, byte),
+        Ok(Source::Stored { start, size }) => {
             draw_in(framebuffer, port, height, part(store, start, size), byte)
         }
-        Source::Refused { refusal } => refused(port, refusal),
+        Err(refusal) => refused(port, refusal),
     }
 }

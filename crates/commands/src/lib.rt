@@ -1,41 +1,32 @@
 // Every command with its fixed arguments, obeyed by the function of its family.
 #![tactic(auto)]
 
-ghost use Rattle.std.specs.Prelude.{◌≡◌, ◌+◌, ◌*◌, ◌≤◌};
+ghost use Rattle.std.specs.Prelude.{◌≡◌, ◌+◌, ◌<◌, ◌≤◌};
 ghost use Rattle.rules.specs.Numbers.{number_bytes, number_at, size_in};
 ghost use Rattle.rules.specs.Step.{obey};
 ghost use Rattle.outcome.specs.Contract.{lent, told_both, Obeys};
 
 use directory::{BITMAP, FONT};
 use outcome::{Outcome, refused};
-use refusals::UNKNOWN_COMMAND;
+use refusals::Refusal;
 use state::{ARGUMENTS, Command, Config, NEWER, Port};
 
-// A number of two bytes.
-fn pair(low: u8, high: u8) -> u16
-    ensures { result ≡ low + 256 * high }
+// A file's number that begins at `from`, low byte first.
+fn number_at(edition: u8, a: [u8; ARGUMENTS], from: usize) -> u16
+    requires { from + 1 < 6 }
+    ensures { result ≡ number_at edition a from }
 {
-    low as u16 + 256 * (high as u16)
+    if edition == NEWER {
+        return u16::from_le_bytes([a[from], a[from + 1]]);
+    }
+    u16::from(a[from])
 }
 
 // A file's number that comes first.
 pub fn first_number(edition: u8, a: [u8; ARGUMENTS]) -> u16
     ensures { result ≡ number_at edition a 0 }
 {
-    if edition == NEWER {
-        return pair(a[0], a[1]);
-    }
-    a[0] as u16
-}
-
-// A file's number behind the type of a delete.
-fn second_number(edition: u8, a: [u8; ARGUMENTS]) -> u16
-    ensures { result ≡ number_at edition a 1 }
-{
-    if edition == NEWER {
-        return pair(a[1], a[2]);
-    }
-    a[1] as u16
+    number_at(edition, a, 0)
 }
 
 // The bytes of a file's number.
@@ -50,12 +41,13 @@ fn size_in(edition: u8, a: [u8; ARGUMENTS]) -> u32
     ensures { result ≡ size_in edition a }
 {
     if edition == NEWER {
-        return pair(a[2], a[3]) as u32 + 65536 * (pair(a[4], a[5]) as u32);
+        return u32::from_le_bytes([a[2], a[3], a[4], a[5]]);
     }
-    pair(a[1], a[2]) as u32
+    u32::from(u16::from_le_bytes([a[1], a[2]]))
 }
 
 // A command with its fixed arguments.
+#[tactic(auto, using(crate::proofs::Commands::obeys_command), unfolding(rules::specs::Step::obey))]
 pub fn obey(
     command: Command,
     a: [u8; ARGUMENTS],
@@ -67,8 +59,9 @@ pub fn obey(
 ) -> Outcome
     ensures { Obeys (told_both config) (obey command a) port (lent framebuffer.old framebuffer.new) (lent store.old store.new) (lent panel.old panel.new) result }
 {
+    // Each command takes arguments of its own, so a table of functions would be no plainer.
     match command {
-        Command::Unknown => refused(port, UNKNOWN_COMMAND),
+        Command::Unknown => refused(port, Refusal::UnknownCommand),
         Command::Clear => drawing::clear(framebuffer, port),
         Command::Home => text::home(port),
         Command::SetPoint => text::set_point(port, a[0], a[1]),
@@ -134,7 +127,7 @@ pub fn obey(
             storage::begin_upload(store, panel, port, config.edition, BITMAP, number, size)
         }
         Command::DeleteFile => {
-            storage::delete_file(store, panel, port, a[0], second_number(config.edition, a))
+            storage::delete_file(store, panel, port, a[0], number_at(config.edition, a, 1))
         }
         Command::Purge => storage::purge(store, panel, port, config.height, a[0], a[1]),
         Command::FlowOn => settings::flow_on(port, a[0], a[1]),

@@ -5,14 +5,15 @@ use mathlib.Core.Bool.{true, false}
 use mathlib.Core.List.{List, [], ◌∷◌, ◌++◌}
 use Prim.Native.Nat.{ℕ, zero, suc, ◌-◌}
 use lib.ListN.{length, replicate}
-use Rattle.directory.specs.declared.Found.TheVariants.{At, Nothing}
+use Rattle.std.specs.Prelude.{Some, None}
+use Rattle.directory.proofs.Laws.{located}
 use Rattle.directory.specs.Directory.{length_of, sort_of, step_at, entry_at, read_from, entries_from, bytes_in, sizes_in, has_file, find_in, find_of, found_number, is_fair, keep_rules, zeros, zeros_from, valid_of}
 
 -- font 2 of 9 bytes, bitmap 2 of 260, and font 300 of 70,000, which is of the newer edition
 abbrev pub small : List ℕ
 small = 1 ∷ 2 ∷ 9 ∷ 0 ∷ 2 ∷ 2 ∷ 4 ∷ 1 ∷ 3 ∷ 44 ∷ 1 ∷ 112 ∷ 17 ∷ 1 ∷ 0 ∷ replicate 600 0
 
-pub small_found : (find_of small 1 2 ≡ At 0 256 9) × (find_of small 2 2 ≡ At 4 265 260) × (find_of small 1 300 ≡ At 8 525 70000) × (find_of small 3 300 ≡ Nothing)
+pub small_found : (find_of small 1 2 ≡ Some (located 0 256 9)) × (find_of small 2 2 ≡ Some (located 4 265 260)) × (find_of small 1 300 ≡ Some (located 8 525 70000)) × (find_of small 3 300 ≡ None)
 unfolding length_of sort_of step_at entry_at read_from entries_from find_in
 small_found = (refl, refl, refl, refl)
 

@@ -9,7 +9,8 @@ use lib.ListN.{length, get_or, get_or-eq_default}
 use lib.Dec.{leb, eqb}
 use borrow.Author.Tests.{eq-eqb, ne_eqb, le-leb, lt-leb, leb-true, eqb-true, eqb-false}
 use Rattle.directory.specs.declared.Entry.{Entry}
-use Rattle.directory.specs.Directory.{is_newer, length_of, sort_of, step_at, pair_at, entry_at, read_from, entries_from, is_file}
+use Rattle.directory.specs.declared.Location.{Location}
+use Rattle.directory.specs.Directory.{is_newer, length_of, sort_of, step_at, entry_at, read_from, entries_from, is_file}
 use Rattle.directory.proofs.RecordKinds.{length-least}
 
 pub step_in : (s : List ℕ) (p n : ℕ) → n ≡ length_of (get_or s p 0) → p + n ≤ 256 → n ≡ step_at s p
@@ -153,14 +154,13 @@ entry_bytes s p =
     let e : p + 5 + 1 ≡ p + 6 = omega arith in
     rw (a, b, c, d, e)
 
-pub older_read : (s : List ℕ) (p z : ℕ) → is_newer (get_or s p 0) ≡ false → z ≡ pair_at s (p + 2) → record { kind = get_or s p 0; number = get_or s (p + 1) 0; size = z } ≡ entry_at s p
-unfolding entry_at
-older_read s p z h e = rw (h, e)
+pub older_read : (s : List ℕ) (p n z : ℕ) → is_newer (get_or s p 0) ≡ false → n ≡ get_or s (p + 1) 0 → z ≡ get_or s (p + 2) 0 + 256 * get_or s (p + 3) 0
+    → record { kind = get_or s p 0; number = n; size = z } ≡ entry_at s p
+older_read s p n z h e f = rw (e, f) (sym (entry_bytes s p ∙ rw h))
 
-pub newer_read : (s : List ℕ) (p n l u : ℕ) → is_newer (get_or s p 0) ≡ true → n ≡ pair_at s (p + 1) → l ≡ pair_at s (p + 3) → u ≡ pair_at s (p + 5)
-    → record { kind = get_or s p 0; number = n; size = l + 65536 * u } ≡ entry_at s p
-unfolding entry_at
-newer_read s p n l u h e f g = let d : p + 3 + 2 ≡ p + 5 = omega arith in rw (h, e, f, g, d)
+pub newer_read : (s : List ℕ) (p n z : ℕ) → is_newer (get_or s p 0) ≡ true → n ≡ get_or s (p + 1) 0 + 256 * get_or s (p + 2) 0
+    → z ≡ get_or s (p + 3) 0 + 256 * get_or s (p + 4) 0 + 65536 * (get_or s (p + 5) 0 + 256 * get_or s (p + 6) 0) → record { kind = get_or s p 0; number = n; size = z } ≡ entry_at s p
+newer_read s p n z h e f = rw (e, f) (sym (entry_bytes s p ∙ rw h))
 
 -- the same bytes are the same entry
 pub copied : (s : List ℕ) (p a b c d e f g : ℕ) → a ≡ get_or s p 0 → b ≡ get_or s (p + 1) 0 → c ≡ get_or s (p + 2) 0 → d ≡ get_or s (p + 3) 0 → e ≡ get_or s (p + 4) 0 → f ≡ get_or s (p + 5) 0
@@ -168,6 +168,10 @@ pub copied : (s : List ℕ) (p a b c d e f g : ℕ) → a ≡ get_or s p 0 → b
 copied s p a b c d e f g ha hb hc hd he hf hg = entry_bytes (a ∷ b ∷ c ∷ d ∷ e ∷ f ∷ g ∷ []) 0 ∙ rw (ha, hb, hc, hd, he, hf, hg) (sym (entry_bytes s p))
 
 -- ---- a file that is asked for
+
+-- with its record at p and n bytes at a
+abbrev pub located : ℕ → ℕ → ℕ → Location
+located p a n = record { «record» = p; start = a; size = n }
 
 pub file_other : (e : Entry) (k n : ℕ) → (e.number ≡ n → ⊥) → false ≡ is_file e k n
 file_other e k n h = rw (ne_eqb e.number n h) (sym (and-false (eqb (sort_of e.kind) k)))

@@ -1,13 +1,11 @@
 -- The directory in the first 256 bytes of the store: records end to end, each one byte of kind and then a body whose length the kind fixes.
 -- Its meaning is the list of its entries; a byte behind the store's end reads as 0.
 -- Assumes nothing.
-use Rattle.std.specs.Prelude.{List, [], ◌∷◌, Bool, true, false, cond, ◌&&◌, ◌||◌, not, ℕ, zero, suc, ◌+◌, ◌-◌, ◌*◌, length, get_or, leb, eqb}
+use Rattle.std.specs.Prelude.{List, [], ◌∷◌, Option, Some, None, Bool, true, false, cond, ◌&&◌, ◌||◌, not, ℕ, zero, suc, ◌+◌, ◌-◌, ◌*◌, length, get_or, leb, eqb}
 use Rattle.refusals.specs.Refusals.{no_such_file, accepted}
 use Rattle.directory.specs.declared.Entry.{Entry}
 use Rattle.directory.specs.declared.Totals.{Totals}
-use Rattle.directory.specs.declared.Surveyed.{Surveyed}
-use Rattle.directory.specs.declared.Found.{Found}
-use Rattle.directory.specs.declared.Found.TheVariants.{At, Nothing}
+use Rattle.directory.specs.declared.Location.{Location}
 
 -- kinds of the older edition, font 1 and bitmap 2: a number of one byte, a size of two. Of the newer, font 3 and bitmap 4: a number of two bytes, a size of four.
 -- Low bytes come first
@@ -78,22 +76,22 @@ has_file [] k n = false
 has_file (e ∷ es) k n = is_file e k n || has_file es k n
 
 -- files lie end to end in directory order: the first of these entries has its record at p and its file at a
-unfoldable pub find_in : List Entry → ℕ → ℕ → ℕ → ℕ → Found
-find_in [] p a k n = Nothing
-find_in (e ∷ es) p a k n = cond (is_file e k n) (At p a e.size) (find_in es (p + length_of e.kind) (a + e.size) k n)
+unfoldable pub find_in : List Entry → ℕ → ℕ → ℕ → ℕ → Option Location
+find_in [] p a k n = None
+find_in (e ∷ es) p a k n = cond (is_file e k n) (Some (record { «record» = p; start = a; size = e.size })) (find_in es (p + length_of e.kind) (a + e.size) k n)
 
-abbrev pub find_of : List ℕ → ℕ → ℕ → Found
+abbrev pub find_of : List ℕ → ℕ → ℕ → Option Location
 find_of s k n = find_in (entries s) 0 256 k n
 
 -- the refusal's number
-abbrev pub found_number : Found → ℕ
-found_number (At position start size) = accepted
-found_number Nothing = no_such_file
+abbrev pub found_number : Option Location → ℕ
+found_number (Some location) = accepted
+found_number None = no_such_file
 
 -- the room that its file takes
-abbrev pub found_size : Found → ℕ
-found_size (At position start size) = size
-found_size Nothing = 0
+abbrev pub found_size : Option Location → ℕ
+found_size (Some location) = location.size
+found_size None = 0
 
 -- no size 0, no number above the highest, and not font 1
 unfoldable pub is_fair : Entry → Bool
@@ -121,12 +119,6 @@ unfoldable pub valid_of : List ℕ → Bool
 valid_of s =
     zeros_from (bytes_in (entries s)) s && leb (bytes_in (entries s)) max_records && keep_rules (entries s) && leb (256 + sizes_in (entries s)) (length s)
 
--- whether it does, and its totals if so
-abbrev pub surveyed : Bool → Totals → Surveyed
-surveyed v t = record { valid = v; totals = t }
-
-abbrev pub broken_survey : Surveyed
-broken_survey = surveyed false (record { end = 0; used = 0 })
-
-unfoldable pub survey_of : List ℕ → Surveyed
-survey_of s = cond (valid_of s) (surveyed true (totals_of (entries s))) broken_survey
+-- its totals, if it does
+unfoldable pub survey_of : List ℕ → Option Totals
+survey_of s = cond (valid_of s) (Some (totals_of (entries s))) None

@@ -1,8 +1,12 @@
 // The directory of the store: the records in its first 256 bytes, read. Any bytes may stand there, and any number of them.
 #![tactic(auto)]
 
-ghost use Rattle.std.specs.Prelude.{◌≡◌, true, false, ◌&&◌, ◌+◌, ◌*◌, ◌%◌, ◌≤◌, ◌<◌, min, leb, length, get_or, take, drop};
-ghost use Rattle.directory.specs.Directory.{is_newer, length_of, sort_of, step_at, pair_at, entry_at, entries, totals_of, is_file, find_of, is_fair, zeros_from, broken_survey, survey_of};
+ghost use Rattle.std.specs.Prelude.{◌≡◌, true, false, ◌&&◌, ◌+◌, ◌-◌, ◌*◌, ◌%◌, ◌≤◌, ◌<◌, min, leb, length, get_or, take, drop};
+ghost use Rattle.std.specs.Iterator.{at_most};
+ghost use Rattle.directory.specs.Records.{goes_on};
+ghost use Rattle.directory.specs.Directory.{is_newer, length_of, sort_of, step_at, pair_at, entry_at, entries, totals_of, is_file, find_of, is_fair, zeros_from, survey_of};
+
+use lent_bytes::byte_at;
 
 // The directory's bytes; the file area lies behind them.
 pub const DIRECTORY: usize = 256;
@@ -10,7 +14,8 @@ pub const DIRECTORY: usize = 256;
 // The bytes that all records together may have.
 pub const MAX_RECORDS: usize = 255;
 
-// The sorts of files. A file is looked up by its sort and number, whichever kind of record it has.
+// The sorts of files. A file is looked up by its sort and number, whichever kind of record it has. Sorts and kinds are bytes: `find` and
+// `record_length` take any, as their definitions do, and an enum would ask more of callers.
 pub const FONT: u8 = 1;
 
 pub const BITMAP: u8 = 2;
@@ -51,62 +56,30 @@ pub struct Totals {
     pub used: usize,
 }
 
-// Whether a directory keeps its rules, and what it comes to if it does.
-#[derive(Clone, Copy)]
-pub struct Surveyed {
-    pub valid: bool,
-    pub totals: Totals,
-}
-
 // The place of a record and of its file.
-#[derive(Clone, Copy)]
-pub enum Found {
-    At {
-        record: usize,
-        start: usize,
-        size: usize,
-    },
-    Nothing,
-}
-
-// A lent byte; behind the end all are 0.
-pub fn byte_at(store: &[u8], p: usize) -> u8
-    ensures { result ≡ get_or store.now p 0 }
-{
-    if p < store.len() { store[p] } else { 0 }
-}
-
-pub fn least(a: usize, b: usize) -> usize
-    ensures { result ≡ min a b }
-{
-    if a < b { a } else { b }
+#[derive(Clone, Copy, Debug, PartialEq, Eq)]
+pub struct Location {
+    pub record: usize,
+    pub start: usize,
+    pub size: usize,
 }
 
 // The lent bytes from number `at` on; behind the end there are none.
 pub fn rest(s: &[u8], at: usize) -> &[u8]
     ensures { result.now ≡ drop at s.now }
 {
-    let end = s.len();
-    let from = least(at, end);
-    &s[from..end]
+    &s[at.min(s.len())..]
 }
 
 // n of the lent bytes from number `at` on, or as many as there are.
 pub fn part(s: &[u8], at: usize, n: usize) -> &[u8]
     ensures { result.now ≡ take n (drop at s.now) }
 {
-    let from = least(at, s.len());
-    let end = from + least(n, s.len() - from);
-    &s[from..end]
+    let behind = rest(s, at);
+    &behind[..n.min(behind.len())]
 }
 
-fn wide(b: u8) -> usize
-    ensures { (result ≡ b) × (result < 256) }
-{
-    b as usize
-}
-
-// The bytes of a record of this kind; 0 for none.
+// The bytes of a record of this kind; 0 for none, and no Option: the length of none adds up like any other.
 pub fn record_length(kind: u8) -> usize
     ensures { (result ≡ length_of kind) × (result ≤ 7) }
 {
@@ -117,7 +90,7 @@ pub fn record_length(kind: u8) -> usize
     }
 }
 
-// The sort of a kind; 0 for none.
+// The sort of a kind; 0 for none, and no Option: a file is found by comparing sorts, as `is_file` says.
 pub fn sort_of(kind: u8) -> u8
     ensures { result ≡ sort_of kind }
 {
@@ -128,7 +101,7 @@ pub fn sort_of(kind: u8) -> u8
     }
 }
 
-// The bytes of the record at p; 0 where no whole one stands.
+// The bytes of the record at p; 0 where no whole one stands, which `next` answers with `None`.
 fn step_at(store: &[u8], p: usize) -> usize
     ensures { result ≡ step_at store.now p }
 {
@@ -136,20 +109,7 @@ fn step_at(store: &[u8], p: usize) -> usize
         return 0;
     }
     let n = record_length(byte_at(store, p));
-    if p + n <= DIRECTORY {
-        return n;
-    }
-    0
-}
-
-// Two bytes, the low one first.
-fn pair_at(store: &[u8], p: usize) -> usize
-    requires { p + 2 ≤ length store.now }
-    ensures { (result ≡ pair_at store.now p) × (result < 65536) }
-{
-    let low = wide(store[p]);
-    let high = wide(store[p + 1]);
-    low + 256 * high
+    if p + n <= DIRECTORY { n } else { 0 }
 }
 
 // A record of the older edition: a number of one byte, a size of two.
@@ -157,11 +117,10 @@ fn older_entry(store: &[u8], p: usize) -> Entry
     requires { (p + 4 ≤ length store.now) × (is_newer (get_or store.now p 0) ≡ false) }
     ensures { (result ≡ entry_at store.now p) × (result.size < 4294967296) }
 {
-    let size = pair_at(store, p + 2);
     Entry {
         kind: store[p],
-        number: store[p + 1] as u16,
-        size,
+        number: u16::from(store[p + 1]),
+        size: usize::from(u16::from_le_bytes([store[p + 2], store[p + 3]])),
     }
 }
 
@@ -170,13 +129,10 @@ fn newer_entry(store: &[u8], p: usize) -> Entry
     requires { (p + 7 ≤ length store.now) × (is_newer (get_or store.now p 0) ≡ true) }
     ensures { (result ≡ entry_at store.now p) × (result.size < 4294967296) }
 {
-    let number = pair_at(store, p + 1);
-    let low = pair_at(store, p + 3);
-    let high = pair_at(store, p + 5);
     Entry {
         kind: store[p],
-        number: number as u16,
-        size: low + 65536 * high,
+        number: u16::from_le_bytes([store[p + 1], store[p + 2]]),
+        size: u32::from_le_bytes([store[p + 3], store[p + 4], store[p + 5], store[p + 6]]) as usize,
     }
 }
 
@@ -191,7 +147,9 @@ fn whole_entry(store: &[u8], p: usize, n: usize) -> Entry
     older_entry(store, p)
 }
 
-// The record of n bytes at p; the store may end before it does.
+// The record of n bytes at p; the store may end before it does. In line with `next`: an entry then stays in registers, and a walk takes half of
+// the instructions.
+#[inline(always)]
 fn entry_at(store: &[u8], p: usize, n: usize) -> Entry
     requires { (n ≡ length_of (get_or store.now p 0)) × (4 ≤ n) × (p + n ≤ 256) }
     ensures { (result ≡ entry_at store.now p) × (result.size < 4294967296) }
@@ -211,66 +169,92 @@ fn entry_at(store: &[u8], p: usize, n: usize) -> Entry
     whole_entry(&bytes, 0, n)
 }
 
+// A record from byte `at` up to byte `behind`.
+#[derive(Clone, Copy)]
+struct Record {
+    at: usize,
+    behind: usize,
+    entry: Entry,
+}
+
+// A walk over the records, from byte `at` on.
+#[derive(Drop)]
+struct Records<'a> {
+    store: &'a [u8],
+    at: usize,
+}
+
+fn walk(store: &[u8]) -> Records<'_>
+    ensures { (result.store ≡ store.entry) × (result.at ≡ 0) }
+{
+    Records { store, at: 0 }
+}
+
+impl Iterator for Records<'_> {
+    type Item = Record;
+
+    ghost next_gives = { goes_on };
+
+    ghost remaining = { λ r. at_most (256 - r.at) };
+
+    #[inline(always)]
+    fn next(&mut self) -> Option<Record> {
+        let at = self.at;
+        let n = step_at(self.store, at);
+        if n == 0 {
+            return None;
+        }
+        let behind = at + n;
+        self.at = behind;
+        Some(Record {
+            at,
+            behind,
+            entry: entry_at(self.store, at, n),
+        })
+    }
+}
+
 pub fn tally(store: &[u8]) -> Totals
     ensures { (result ≡ totals_of (entries store.now)) × (result.end ≤ 256) × (result.used ≤ 1099511627776) }
 {
-    let mut p = 0;
+    let mut end = 0;
     let mut used = 0;
-    loop {
-        let n = step_at(store, p);
-        if n == 0 {
-            return Totals { end: p, used };
-        }
-        let e = entry_at(store, p, n);
-        used += e.size;
-        p += n;
+    for r in walk(store) {
+        end = r.behind;
+        used += r.entry.size;
     }
+    Totals { end, used }
 }
 
-fn is_file(e: Entry, sort: u8, number: u16) -> bool
-    ensures { result ≡ is_file e sort number }
+fn is_file(e: &Entry, sort: u8, number: u16) -> bool
+    ensures { result ≡ is_file e.now sort number }
 {
-    if e.number != number {
-        return false;
-    }
-    sort_of(e.kind) == sort
+    e.number == number && sort_of(e.kind) == sort
 }
 
 // The first file of this sort and number.
-pub fn find(store: &[u8], sort: u8, number: u16) -> Found
+pub fn find(store: &[u8], sort: u8, number: u16) -> Option<Location>
     ensures { result ≡ find_of store.now sort number }
 {
-    let mut p = 0;
     let mut start = DIRECTORY;
-    loop {
-        let n = step_at(store, p);
-        if n == 0 {
-            return Found::Nothing;
-        }
-        let e = entry_at(store, p, n);
-        let size = e.size;
-        if is_file(e, sort, number) {
-            return Found::At {
-                record: p,
+    for r in walk(store) {
+        let size = r.entry.size;
+        if is_file(&r.entry, sort, number) {
+            return Some(Location {
+                record: r.at,
                 start,
                 size,
-            };
+            });
         }
         start += size;
-        p += n;
     }
+    None
 }
 
-fn is_fair(e: Entry) -> bool
-    ensures { result ≡ is_fair e }
+fn is_fair(e: &Entry) -> bool
+    ensures { result ≡ is_fair e.now }
 {
-    if e.size == 0 {
-        return false;
-    }
-    if MAX_NUMBER < e.number {
-        return false;
-    }
-    !is_file(e, FONT, BUILT_IN_FONT)
+    e.size != 0 && e.number <= MAX_NUMBER && !is_file(e, FONT, BUILT_IN_FONT)
 }
 
 // The number of the bit that stands for a file in the table: two bits a number, one for each sort.
@@ -278,19 +262,17 @@ fn slot(e: Entry) -> usize
     requires { e.number ≤ 1023 }
     ensures { (result ≡ 2 * e.number + sort_of e.kind % 2) × (result < 2048) }
 {
-    2 * (e.number as usize) + (sort_of(e.kind) % 2) as usize
+    2 * usize::from(e.number) + usize::from(sort_of(e.kind) % 2)
 }
 
 // Whether every byte from number `from` to the directory's end is 0. No early way out, so that many are tested at once.
 fn zeros_from(store: &[u8], from: usize) -> bool
-    requires { 256 ≤ length store.now }
+    requires { (256 ≤ length store.now) × (from ≤ 256) }
     ensures { result ≡ zeros_from from store.now }
 {
-    let mut all = 0u8;
-    let mut p = from;
-    while p < DIRECTORY {
-        all = all | store[p];
-        p += 1;
+    let mut all = 0;
+    for &b in &store[from..DIRECTORY] {
+        all |= b;
     }
     all == 0
 }
@@ -300,56 +282,31 @@ fn closes(store: &[u8], t: Totals) -> bool
     requires { (256 ≤ length store.now) × (t.used ≤ 1099511627776) }
     ensures { result ≡ (leb t.end 255 && leb (256 + t.used) (length store.now) && zeros_from t.end store.now) }
 {
-    if MAX_RECORDS < t.end {
-        return false;
-    }
-    if store.len() < DIRECTORY + t.used {
-        return false;
-    }
-    zeros_from(store, t.end)
+    t.end <= MAX_RECORDS && DIRECTORY + t.used <= store.len() && zeros_from(store, t.end)
 }
 
-fn broken() -> Surveyed
-    ensures { result ≡ broken_survey }
-{
-    Surveyed {
-        valid: false,
-        totals: Totals { end: 0, used: 0 },
-    }
-}
-
-// Whether the directory keeps its rules, and its totals. One walk over the records, in which each file is marked in a table of those seen.
-pub fn survey(store: &[u8]) -> Surveyed
+// The totals of a directory that keeps its rules. One walk over the records, in which each file is marked in a table of those seen.
+pub fn survey(store: &[u8]) -> Option<Totals>
     ensures { result ≡ survey_of store.now }
 {
     if store.len() < DIRECTORY {
-        return broken();
+        return None;
     }
     let mut seen = [0u8; SEEN];
-    let mut p = 0;
+    let mut end = 0;
     let mut used = 0;
-    loop {
-        let n = step_at(store, p);
-        if n == 0 {
-            let totals = Totals { end: p, used };
-            if !closes(store, totals) {
-                return broken();
-            }
-            return Surveyed {
-                valid: true,
-                totals,
-            };
+    for r in walk(store) {
+        if !is_fair(&r.entry) {
+            return None;
         }
-        let e = whole_entry(store, p, n);
-        if !is_fair(e) {
-            return broken();
-        }
-        let i = slot(e);
+        let i = slot(r.entry);
         if (seen[i / 8] >> (7 - i % 8)) % 2 == 1 {
-            return broken();
+            return None;
         }
-        seen[i / 8] = seen[i / 8] | (128u8 >> (i % 8));
-        used += e.size;
-        p += n;
+        seen[i / 8] |= 128u8 >> (i % 8);
+        end = r.behind;
+        used += r.entry.size;
     }
+    let totals = Totals { end, used };
+    closes(store, totals).then_some(totals)
 }

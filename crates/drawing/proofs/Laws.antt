@@ -3,9 +3,7 @@
 use mathlib.Core.Path.{◌≡◌}
 use mathlib.Core.Bool.{Bool, true, false, not}
 use mathlib.Core.List.{List, []}
-use Prim.Native.Nat.{ℕ, ◌<◌, ◌≤◌}
-use lib.Dec.{leb}
-use borrow.Author.Tests.{le-leb, lt-leb}
+use Prim.Native.Nat.{ℕ}
 use Rattle.pixels.specs.Framebuffer.{fill}
 use Rattle.pixels.specs.Regions.{point, rectangle, everywhere}
 use Rattle.canvas.specs.declared.Colour.{Colour}
@@ -16,12 +14,6 @@ use Rattle.state.specs.declared.State.{State}
 use Rattle.rules.specs.World.{World, world, port, put_text, quietly, refused}
 use Rattle.rules.specs.Text.{home}
 use Rattle.rules.specs.Drawing.{clear, drawing, put_drawing, set_colour, draw_pixel, draw_line, ordered, draw_frame, fill_rectangle}
-
-pub unordered_x : (x1 y1 x2 y2 : ℕ) → x2 < x1 → false ≡ ordered x1 y1 x2 y2
-unordered_x x1 y1 x2 y2 l = rw (lt-leb x1 x2 l)
-
-pub ordered_y : (x1 y1 x2 y2 : ℕ) → x1 ≤ x2 → leb y1 y2 ≡ ordered x1 y1 x2 y2
-ordered_y x1 y1 x2 y2 l = rw (le-leb x1 x2 l)
 
 pub clear_is : (g g' s : List ℕ) (st : State) → g' ≡ fill everywhere false g → clear (world g s st) ≡ quietly (put_text (world g' s st) (home st.port.text))
 unfolding clear

@@ -5,7 +5,7 @@ use mathlib.Core.Bool.{true}
 use mathlib.Core.List.{List, [], ◌∷◌, ◌++◌}
 use Prim.Native.Nat.{ℕ, zero, suc, ◌+◌, ◌-◌, ◌<◌, ◌≤◌}
 use native.Mathlib.Omega.{arith}
-use lib.ListN.{length, get_or, take, drop, set, replicate, length-append, length-drop, take-append-drop, drop_of_length-le}
+use lib.ListN.{length, get_or, take, drop, replicate, length-append, length-drop, take-append-drop, drop_of_length-le}
 use lib.Seq.{sets, take_all, length-sets, length-take-le, take-add, drop-cons, drop-drop}
 use borrow.Author.Tests.{eq-eqb, ne_eqb, eqb-true, lt-ltb}
 use Rattle.file_laws.proofs.Written.{and_both}
@@ -27,8 +27,6 @@ use Rattle.rules.specs.Calls.{bytes, run, said, taken}
 use Rattle.rules.proofs.Streams.{run_append, said_append, bytes_length, bytes_take, bytes_drop}
 use Rattle.rules.specs.Sound.{ComesAll}
 use Rattle.rules.proofs.GoodByte.{take_comes}
-use Rattle.outcome.specs.declared.Reply.{Reply}
-use Rattle.outcome.specs.Outcome.{sent_by}
 use Rattle.outcome.specs.Contract.{Held, world_of, Came}
 use Rattle.calls.specs.Memory.{Kept}
 use Rattle.calls.proofs.Demands.{kept_run}
@@ -36,33 +34,6 @@ use Rattle.whole_command.specs.Whole.{command_in, fixed_arguments, whole_in}
 use Rattle.whole_command.proofs.Whole.{sets_append}
 use Rattle.whole_command.proofs.One.{AsOne, whole_one, input_one, whole_fits}
 use Rattle.feed.specs.Running.{Written, Ran}
-
--- ---- a reply written
-
-pub none_sent : (r : Reply) → r.count ≡ 0 → sent_by r ≡ []
-unfolding sent_by
-none_sent r e = rw (eq-eqb r.count 0 e)
-
-pub one_sent : (r : Reply) → (r.count ≡ 0 → ⊥) → r.count ≡ 1 → sent_by r ≡ r.first ∷ []
-unfolding sent_by
-one_sent r h e = rw (ne_eqb r.count 0 h, eq-eqb r.count 1 e)
-
-pub two_sent : (r : Reply) → (r.count ≡ 0 → ⊥) → (r.count ≡ 1 → ⊥) → sent_by r ≡ r.first ∷ r.second ∷ []
-unfolding sent_by
-two_sent r h e = rw (ne_eqb r.count 0 h, ne_eqb r.count 1 e)
-
-module _ (r : Reply) (g : List ℕ) (at : ℕ) where
-  pub sends_none : r.count ≡ 0 → (at ≡ at + length (sent_by r)) × (g ≡ sets g at (sent_by r))
-  sends_none e = rw (none_sent r e) (omega arith, refl)
-
-  pub sends_one : (r.count ≡ 0 → ⊥) → r.count ≡ 1 → (at + 1 ≡ at + length (sent_by r)) × (set g at r.first ≡ sets g at (sent_by r))
-  sends_one h e = rw (one_sent r h e) (refl, refl)
-
-  pub sends_two : (r.count ≡ 0 → ⊥) → (r.count ≡ 1 → ⊥)
-      → (at + 2 ≡ at + length (sent_by r)) × (set (set g at r.first) (at + 1) r.second ≡ sets g at (sent_by r))
-  sends_two h e =
-      let n : at + 1 ≡ suc at = omega arith in
-      rw (two_sent r h e) (refl, ap (λ (k : ℕ). set (set g at r.first) k r.second) n)
 
 -- ---- so far
 
@@ -137,19 +108,18 @@ some_bytes : (p : List ℕ) (i n : ℕ) → bytes (take n (drop i p)) ≡ take n
 some_bytes p i n = bytes_take n (drop i p) ∙ ap (take n) (bytes_drop i p)
 
 -- a command that stands whole
-pub command_one : (w : World) (p : List ℕ) (i n : ℕ) → Kept w → n ≡ whole_in (edition w) (port w).line.phase (rest p i) → 0 < n
+pub command_one : (w : World) (p : List ℕ) (i n : ℕ) → Kept w → 0 < whole_in (edition w) (port w).line.phase (rest p i) → n ≡ whole_in (edition w) (port w).line.phase (rest p i)
     → AsOne w (take n (drop i (bytes p))) (after w (obey (command_in (rest p i)) (fixed_arguments (edition w) (rest p i)) w))
     (sent (obey (command_in (rest p i)) (fixed_arguments (edition w) (rest p i)) w))
-command_one w p i n k e h =
+command_one w p i n k h e =
     let r : List ℕ = rest p i in
-    let there : 0 < whole_in (edition w) (port w).line.phase r = subst (λ (m : ℕ). 0 < m) e h in
     subst (λ (x : List Input). AsOne w x (after w (obey (command_in r) (fixed_arguments (edition w) r) w)) (sent (obey (command_in r) (fixed_arguments (edition w) r) w)))
-    (ap (λ (m : ℕ). bytes (take m r)) (sym e) ∙ ap (λ (x : List ℕ). bytes (take n x)) (rest_is p i) ∙ some_bytes p i n) (whole_one w r (calm w k) there)
+    (ap (λ (m : ℕ). bytes (take m r)) (sym e) ∙ ap (λ (x : List ℕ). bytes (take n x)) (rest_is p i) ∙ some_bytes p i n) (whole_one w r (calm w k) h)
 
-pub command_fits : (p : List ℕ) (i n d : ℕ) (f : Phase) → i < length p → n ≡ whole_in d f (rest p i) → 0 < n → i + n ≤ length p
-command_fits p i n d f h e there =
+pub command_fits : (p : List ℕ) (i n d : ℕ) (f : Phase) → i < length p → 0 < whole_in d f (rest p i) → n ≡ whole_in d f (rest p i) → i + n ≤ length p
+command_fits p i n d f h there e =
     let long : length (rest p i) ≡ length p - i = ap length (rest_is p i) ∙ length-drop i p in
-    omega (arith, e, long, whole_fits d f (rest p i) (subst (λ (m : ℕ). 0 < m) e there))
+    omega (arith, e, long, whole_fits d f (rest p i) there)
 
 -- a byte
 pub byte_there : (w : World) (p : List ℕ) (i b : ℕ) → i < length p → b ≡ get_or p i 0 → AsOne w (take 1 (drop i (bytes p))) (after w (outcome w (byte b))) (sent (outcome w (byte b)))

@@ -2,23 +2,19 @@
 -- Assumes nothing.
 use mathlib.Core.Path.{◌≡◌, ◌∙◌, sym, ap, subst}
 use mathlib.Core.List.{List, [], ◌∷◌, ◌++◌, append-nil}
-use mathlib.Core.Bool.{Bool, true, false, cond, not, ◌||◌}
+use mathlib.Core.Bool.{Bool, true, false, cond}
 use Prim.Native.Nat.{ℕ, ◌+◌, ◌-◌, ◌<◌, ◌≤◌}
 use native.Mathlib.Omega.{arith}
 use native.Mathlib.Nat.{zero-add}
-use lib.Dec.{eqb, leb, ltb}
+use lib.Dec.{eqb}
 use lib.ListN.{length, get_or, take, drop, length-drop, length-append, take-append-drop, drop_of_length-le}
 use lib.Seq.{sets, sets-eq, take_all, drop_at, drop-cons, drop-drop, drop-append-le, get_or-take, length-take-le}
 use borrow.Rule.Slice.PartMut.{put_mid, mid_of}
-use borrow.Author.Tests.{eq-eqb, ne_eqb, le-leb, lt-leb, lt-ltb, le-ltb, not-false}
+use borrow.Author.Tests.{eq-eqb, ne_eqb, lt-ltb, le-ltb}
 use Rattle.canvas.specs.Sizes.{length_for}
 use Rattle.directory.specs.declared.Totals.{Totals}
-use Rattle.directory.specs.declared.Surveyed.{Surveyed}
-use Rattle.directory.specs.Directory.{entries, sizes_in, totals_of, survey_of}
-use Rattle.directory.proofs.Walks.{survey_says, survey_totals}
-use Rattle.files.specs.Files.{unused_of}
+use Rattle.directory.specs.Directory.{entries, sizes_in, totals_of, valid_of}
 use Rattle.state.specs.declared.Phase.{Phase}
-use Rattle.state.specs.declared.Phase.TheVariants.{Upload}
 use Rattle.state.specs.declared.Config.{Config}
 use Rattle.state.specs.declared.Port.{Port}
 use Rattle.state.specs.declared.State.{State}
@@ -33,8 +29,6 @@ use Rattle.record.proofs.Overwriting.{over_front}
 use Rattle.record.proofs.Round.{passed}
 use Rattle.record.proofs.Whole.{length-port}
 use Rattle.rules.specs.World.{World, world}
-use Rattle.rules.specs.Files.{in_use, kind_of, lacks_space}
-use Rattle.rules.specs.Sound.{store_most, highest}
 use Rattle.rules.specs.Step.{Input, time, outcome, sent, step, replies}
 use Rattle.rules.specs.Calls.{run, said, taken}
 use Rattle.rules.proofs.Replies.{replies_most, said_fits}
@@ -44,106 +38,44 @@ use Rattle.outcome.specs.Contract.{unlent, untold, held, Obeys}
 use Rattle.calls.specs.Memory.{Memory, memory, store_fits, upload_refused, checked, loaded, saved, Kept}
 use Rattle.calls.specs.Feed.{fed_inputs, feed_of}
 use Rattle.calls.proofs.Demands.{checked_kept, checks, saved_loaded, kept_step}
+use Rattle.feed.specs.declared.Fault.{Fault}
+use Rattle.feed.specs.declared.Fault.TheVariants.{BadFramebuffer, BadStore, BadRecord, BadDirectory, NoReplyRoom}
+use Rattle.feed.specs.Faults.{fault_number}
 use Rattle.feed.specs.Called.{called, called_by, inputs_call, timed, timed_by, time_call}
 use Rattle.feed.specs.Running.{Written, Ran, RanOn}
 use Rattle.feed.proofs.Feeding.{stepped}
 
 -- ---- the checks
 
-pub store_short : (s : List ℕ) → length s < 1024 → false ≡ store_fits s
-store_short s l = rw (lt-leb 1024 (length s) l)
-
-pub store_long : (s : List ℕ) → 1024 ≤ length s → leb (length s) store_most ≡ store_fits s
-store_long s l = rw (le-leb 1024 (length s) l)
-
-pub blocked_is : (d : ℕ) (s : List ℕ) (y : Totals) (f : Phase) (k n z t : ℕ) (v : Bool) (c m : ℕ) (r : Bool) → y ≡ totals_of (entries s) → f ≡ Upload k n z t v c m
-    → r ≡ (ltb (highest d) n || in_use s k n || lacks_space y.end (unused_of s y.used) (kind_of d k) z) → r ≡ upload_refused d s f
-blocked_is d s y f k n z t v c m r ey e o =
-    o ∙ ap (λ (x : Totals). ltb (highest d) n || in_use s k n || lacks_space x.end (unused_of s x.used) (kind_of d k) z) ey ∙ ap (upload_refused d s) (sym e)
-
-module _ (g s st : List ℕ) (k : Bool) (known : k ≡ recognised st) where
-  pub check_3_first : not k ≡ true → 3 ≡ checked (memory g s st)
+-- past the checks of what stands before the directory
+module _ (g s st : List ℕ) (known : recognised st ≡ true) (size : length g ≡ length_for (height_in st)) (fits : store_fits s ≡ true) (sound : sound_record st ≡ true) where
+  pub check_4 : valid_of s ≡ false → 4 ≡ checked (memory g s st)
   unfolding checked
-  check_3_first n = rw (← known, n)
+  check_4 n = rw (known, eq-eqb (length g) (length_for (height_in st)) size, fits, sound, n)
 
-  module _ (is : not k ≡ false) (h : Config) (z : ℕ) (read-config : h ≡ config_in st) (sized : z ≡ length_for h.height) where
-    long : length_for (height_in st) ≡ z
-    long = ap (λ (x : Config). length_for x.height) (sym read-config) ∙ sym sized
+  module _ (orderly : valid_of s ≡ true) (f : Phase) (b : Bool) (read : f ≡ (port_of st).line.phase) (blocked : b ≡ upload_refused (edition_in st) s f) where
+    in_record : b ≡ upload_refused (edition_in st) s (decode_of st).port.line.phase
+    unfolding decode_of
+    in_record = blocked ∙ ap (upload_refused (edition_in st) s) read
 
-    pub check_1 : (length g ≡ z → ⊥) → 1 ≡ checked (memory g s st)
+    pub check_4_upload : b ≡ true → 4 ≡ checked (memory g s st)
     unfolding checked
-    check_1 n = rw (← known, is, long, ne_eqb (length g) z n)
+    check_4_upload n = rw (known, eq-eqb (length g) (length_for (height_in st)) size, fits, sound, orderly, ← in_record, n)
 
-    module _ (size : length g ≡ z) (t : Bool) (fits : t ≡ store_fits s) where
-      pub check_2 : not t ≡ true → 2 ≡ checked (memory g s st)
+    -- x the used room that the record keeps
+    module _ (free : b ≡ false) (t : Totals) (counted : t ≡ totals_of (entries s)) (x : ℕ) (kept : x ≡ used_in st) where
+      own : sizes_in (entries s) ≡ t.used
+      own = sym (ap (λ (y : Totals). y.used) counted)
+
+      pub check_3_sum : (x ≡ t.used → ⊥) → 3 ≡ checked (memory g s st)
       unfolding checked
-      check_2 n = rw (← known, is, long, eq-eqb (length g) z size, ← fits, n)
+      check_3_sum n =
+          rw (known, eq-eqb (length g) (length_for (height_in st)) size, fits, sound, orderly, ← in_record, free, ← kept, own, ne_eqb x t.used n)
 
-      module _ (fine : not t ≡ false) (u : Bool) (sound : u ≡ sound_record st) where
-        pub check_3 : not u ≡ true → 3 ≡ checked (memory g s st)
-        unfolding checked
-        check_3 n = rw (← known, is, long, eq-eqb (length g) z size, ← fits, fine, ← sound, n)
-
-        module _ (true-record : not u ≡ false) (y : Surveyed) (surveyed : y ≡ survey_of s) where
-          pub check_4 : not y.valid ≡ true → 4 ≡ checked (memory g s st)
-          unfolding checked
-          check_4 n = rw (← known, is, long, eq-eqb (length g) z size, ← fits, fine, ← sound, true-record, ← survey_says s y surveyed, n)
-
-          module _ (orderly : not y.valid ≡ false) (f : Phase) (b : Bool) (read : f ≡ (port_of st).line.phase) (blocked : b ≡ upload_refused h.edition s f) where
-            in_record : b ≡ upload_refused (edition_in st) s (decode_of st).port.line.phase
-            unfolding decode_of
-            in_record = blocked ∙ ap (λ (x : Config). upload_refused x.edition s f) read-config ∙ ap (upload_refused (edition_in st) s) read
-
-            pub check_4_upload : b ≡ true → 4 ≡ checked (memory g s st)
-            unfolding checked
-            check_4_upload n = rw (← known, is, long, eq-eqb (length g) z size, ← fits, fine, ← sound, true-record, ← survey_says s y surveyed, orderly, ← in_record, n)
-
-            -- x the used room that the record keeps
-            module _ (free : b ≡ false) (x : ℕ) (kept : x ≡ used_in st) where
-              own : sizes_in (entries s) ≡ y.totals.used
-              own = sym (ap (λ (t : Totals). t.used) (survey_totals s y surveyed (not-false y.valid orderly)))
-
-              pub check_3_sum : (x ≡ y.totals.used → ⊥) → 3 ≡ checked (memory g s st)
-              unfolding checked
-              check_3_sum n =
-                  rw (
-                    ← known,
-                    is,
-                    long,
-                    eq-eqb (length g) z size,
-                    ← fits,
-                    fine,
-                    ← sound,
-                    true-record,
-                    ← survey_says s y surveyed,
-                    orderly,
-                    ← in_record,
-                    free,
-                    ← kept,
-                    own,
-                    ne_eqb x y.totals.used n,
-                  )
-
-              pub check_0 : x ≡ y.totals.used → 0 ≡ checked (memory g s st)
-              unfolding checked
-              check_0 n =
-                  rw (
-                    ← known,
-                    is,
-                    long,
-                    eq-eqb (length g) z size,
-                    ← fits,
-                    fine,
-                    ← sound,
-                    true-record,
-                    ← survey_says s y surveyed,
-                    orderly,
-                    ← in_record,
-                    free,
-                    ← kept,
-                    own,
-                    eq-eqb x y.totals.used n,
-                  )
+      pub check_0 : x ≡ t.used → 0 ≡ checked (memory g s st)
+      unfolding checked
+      check_0 n =
+          rw (known, eq-eqb (length g) (length_for (height_in st)) size, fits, sound, orderly, ← in_record, free, ← kept, own, eq-eqb x t.used n)
 
 pub read_both : (st : List ℕ) (h : Config) (t : Port) → h ≡ config_in st → t ≡ port_of st → (h ≡ config_in st) × (t.line.phase ≡ (port_of st).line.phase)
 read_both st h t e f = (e, ap (λ (x : Port). x.line.phase) f)
@@ -153,6 +85,14 @@ read_both st h t e f = (e, ap (λ (x : Port). x.line.phase) f)
 pub not_passed : (m : Memory) (p : List Input) (r : List ℕ) (a : ℕ) → a ≡ checked m → (a ≡ 0 → ⊥) → called a m r 0 0 ≡ inputs_call m p r
 unfolding inputs_call feed_of
 not_passed m p r a e n = rw (← e, ne_eqb a 0 n)
+
+-- no fault is answered with 0
+pub some_number : (f : Fault) → fault_number f ≡ 0 → ⊥
+some_number BadFramebuffer e = absurd (omega arith)
+some_number BadStore e = absurd (omega arith)
+some_number BadRecord e = absurd (omega arith)
+some_number BadDirectory e = absurd (omega arith)
+some_number NoReplyRoom e = absurd (omega arith)
 
 fed_0 : (m : Memory) (p : List Input) (r : List ℕ) → checked m ≡ 0 → inputs_call m p r ≡ called_by (fed_inputs (loaded m) p (taken (loaded m) (length r) p)) r
 unfolding inputs_call feed_of

@@ -12,6 +12,7 @@ ghost use Rattle.rules.specs.World.{world};
 ghost use Rattle.rules.specs.Calls.{bytes};
 ghost use Rattle.outcome.specs.Outcome.{sent_by};
 ghost use Rattle.calls.specs.Memory.{memory, store_fits, upload_refused, checked, Kept};
+ghost use Rattle.feed.specs.Faults.{fault_number, number_of};
 ghost use Rattle.feed.specs.Called.{called, feed_call, timed, time_call};
 ghost use Rattle.feed.specs.Running.{Written, Ran, RanOn};
 
@@ -25,18 +26,40 @@ use state::{Config, Phase, Port};
 use storage::is_turned_away;
 use whole_command::{obey_whole, whole_length};
 
-// Answers; those of the queue are its own.
-pub const DONE: u32 = 0;
+// Why a call does nothing, or not all.
+#[derive(Clone, Copy, Debug, PartialEq, Eq)]
+pub enum Fault {
+    BadFramebuffer,
+    BadStore,
+    BadRecord,
+    BadDirectory,
+    NoReplyRoom,
+}
 
-pub const BAD_FRAMEBUFFER: u32 = 1;
+// Those of the queue have numbers of their own.
+impl From<Fault> for u32 {
+    ghost from_gives = { λ fault n. n ≡ fault_number fault };
 
-pub const BAD_STORE: u32 = 2;
+    fn from(fault: Fault) -> u32 {
+        match fault {
+            Fault::BadFramebuffer => 1,
+            Fault::BadStore => 2,
+            Fault::BadRecord => 3,
+            Fault::BadDirectory => 4,
+            Fault::NoReplyRoom => 5,
+        }
+    }
+}
 
-pub const BAD_RECORD: u32 = 3;
-
-pub const BAD_DIRECTORY: u32 = 4;
-
-pub const NO_REPLY_ROOM: u32 = 5;
+// What C is answered: 0 where all is done.
+pub fn number_of(done: Result<(), Fault>) -> u32
+    ensures { result ≡ number_of done }
+{
+    match done {
+        Ok(()) => 0,
+        Err(fault) => u32::from(fault),
+    }
+}
 
 // The store's bytes, at least and at most.
 pub const STORE_LEAST: usize = 1024;
@@ -49,25 +72,29 @@ pub const REPLY_ROOM: usize = 2;
 #[derive(Clone, Copy)]
 struct Progress {
     port: Port,
-    answer: u32,
+    done: Result<(), Fault>,
     consumed: usize,
     replied: usize,
 }
 
 // Writes a reply from number `at` on; the answer is the number behind it.
+#[tactic(auto, unfolding(outcome::specs::Outcome::sent_by))]
 fn send(replies: &mut [u8], at: usize, reply: Reply) -> usize
     requires { at + 2 ≤ length replies.old }
     ensures { (result ≡ at + length (sent_by reply)) × (replies.new ≡ sets replies.old at (sent_by reply)) }
 {
-    if reply.count == 0 {
-        return at;
+    match reply {
+        Reply::Silence => at,
+        Reply::One(byte) => {
+            replies[at] = byte;
+            at + 1
+        }
+        Reply::Two(first, second) => {
+            replies[at] = first;
+            replies[at + 1] = second;
+            at + 2
+        }
     }
-    replies[at] = reply.first;
-    if reply.count == 1 {
-        return at + 1;
-    }
-    replies[at + 1] = reply.second;
-    at + 2
 }
 
 // Obeys a piece as far as the reply room goes.
@@ -81,41 +108,37 @@ fn run(
     replies: &mut [u8],
 ) -> Progress
     requires { Kept (world framebuffer.old store.old (state config port (panel_of panel.old))) × Written panel.old }
-    ensures { Ran (world framebuffer.old store.old (state config port (panel_of panel.old))) (bytes piece.now) replies.old (world framebuffer.new store.new (state config result.port (panel_of panel.new))) replies.new result.answer result.consumed result.replied × Written panel.new }
+    ensures { Ran (world framebuffer.old store.old (state config port (panel_of panel.old))) (bytes piece.now) replies.old (world framebuffer.new store.new (state config result.port (panel_of panel.new))) replies.new (number_of result.done) result.consumed result.replied × Written panel.new }
 {
     let mut p = port;
     let mut i = 0;
     let mut at = 0;
+    // Counted by hand: a command that stands whole is several bytes at once.
     while i < piece.len() {
         if replies.len() - at < REPLY_ROOM {
             return Progress {
                 port: p,
-                answer: NO_REPLY_ROOM,
+                done: Err(Fault::NoReplyRoom),
                 consumed: i,
                 replied: at,
             };
         }
-        let line = p.line;
-        let phase = line.phase;
         let rest = &piece[i..];
-        let n = whole_length(config.edition, phase, rest);
-        if n > 0 {
+        if let Some(n) = whole_length(config.edition, p.line.phase, rest) {
             let o = obey_whole(framebuffer, store, panel, p, config, rest);
-            let next = o.port;
-            p = next;
+            p = o.port;
             i += n;
             at = send(replies, at, o.reply);
             continue;
         }
         let o = step(framebuffer, store, panel, p, config, piece[i]);
-        let next = o.port;
-        p = next;
+        p = o.port;
         i += 1;
         at = send(replies, at, o.reply);
     }
     Progress {
         port: p,
-        answer: DONE,
+        done: Ok(()),
         consumed: i,
         replied: at,
     }
@@ -132,7 +155,7 @@ fn run_on(
     replies: &mut [u8],
 ) -> Progress
     requires { Kept (world framebuffer.old store.old (state config port (panel_of (drop panel_at «record».old)))) × Written (drop panel_at «record».old) × (length «record».old ≡ record_size) × (config ≡ config_in «record».old) × (encode_of (state config port (panel_of (drop panel_at «record».old))) ≡ «record».old) }
-    ensures { RanOn framebuffer.old store.old «record».old config port (bytes piece.now) replies.old framebuffer.new store.new «record».new result.port replies.new result.answer result.consumed result.replied }
+    ensures { RanOn framebuffer.old store.old «record».old config port (bytes piece.now) replies.old framebuffer.new store.new «record».new result.port replies.new (number_of result.done) result.consumed result.replied }
 {
     let ran = run(
         framebuffer,
@@ -147,18 +170,14 @@ fn run_on(
     if ran.consumed == 0 {
         return ran;
     }
-    let next = ran.port;
-    encode_port(next, record);
+    encode_port(ran.port, record);
     ran
 }
 
 pub fn store_fits(store: &[u8]) -> bool
     ensures { result ≡ store_fits store.now }
 {
-    if store.len() < STORE_LEAST {
-        return false;
-    }
-    store.len() <= STORE_MOST
+    (STORE_LEAST..=STORE_MOST).contains(&store.len())
 }
 
 // Whether an upload under way would now be refused.
@@ -166,58 +185,50 @@ fn is_blocked(store: &[u8], totals: Totals, edition: u8, phase: Phase) -> bool
     requires { totals ≡ totals_of (entries store.now) }
     ensures { result ≡ upload_refused edition store.now phase }
 {
-    match phase {
-        Phase::Idle => false,
-        Phase::Prefix => false,
-        Phase::Gathering { code: _, got: _ } => false,
-        Phase::Inline {
-            x1: _,
-            y1: _,
-            x2: _,
-            y2: _,
-            done: _,
-        } => false,
-        Phase::Upload {
-            sort,
-            number,
-            size,
-            stored: _,
-            waiting: _,
-            byte: _,
-            waited: _,
-        } => is_turned_away(store, totals, edition, sort, number, size),
-    }
+    let Phase::Upload {
+        sort,
+        number,
+        size,
+        ..
+    } = phase
+    else {
+        return false;
+    };
+    is_turned_away(store, totals, edition, sort, number, size)
 }
 
 // The checks that a call makes first, in their order, with what was read of the record.
-fn check(framebuffer: &[u8], store: &[u8], state: &[u8], config: Config, phase: Phase) -> u32
+#[tactic(auto, unfolding(calls::specs::Memory::checked))]
+fn check(
+    framebuffer: &[u8],
+    store: &[u8],
+    state: &[u8],
+    config: Config,
+    phase: Phase,
+) -> Result<(), Fault>
     requires { (config ≡ config_in state.now) × (phase ≡ (port_of state.now).line.phase) }
-    ensures { result ≡ checked (memory framebuffer.now store.now state.now) }
+    ensures { number_of result ≡ checked (memory framebuffer.now store.now state.now) }
 {
     if !record_check::is_recognised(state) {
-        return BAD_RECORD;
+        return Err(Fault::BadRecord);
     }
     if framebuffer.len() != length_for(config.height) {
-        return BAD_FRAMEBUFFER;
+        return Err(Fault::BadFramebuffer);
     }
     if !store_fits(store) {
-        return BAD_STORE;
+        return Err(Fault::BadStore);
     }
     if !record_check::is_record(state) {
-        return BAD_RECORD;
+        return Err(Fault::BadRecord);
     }
-    let surveyed = survey(store);
-    if !surveyed.valid {
-        return BAD_DIRECTORY;
-    }
-    let totals = surveyed.totals;
+    let totals = survey(store).ok_or(Fault::BadDirectory)?;
     if is_blocked(store, totals, config.edition, phase) {
-        return BAD_DIRECTORY;
+        return Err(Fault::BadDirectory);
     }
-    if used_in(state) as usize != totals.used {
-        return BAD_RECORD;
+    if usize::from(used_in(state)) != totals.used {
+        return Err(Fault::BadRecord);
     }
-    DONE
+    Ok(())
 }
 
 // A piece of the stream: memory that does not pass the checks is left as it is.
@@ -229,23 +240,18 @@ pub fn feed_piece(
     replies: &mut [u8],
     consumed: &mut usize,
     replied: &mut usize,
-) -> u32
-    ensures { called result (memory framebuffer.new store.new state.new) replies.new consumed.new replied.new ≡ feed_call (memory framebuffer.old store.old state.old) piece.now replies.old }
+) -> Result<(), Fault>
+    ensures { called (number_of result) (memory framebuffer.new store.new state.new) replies.new consumed.new replied.new ≡ feed_call (memory framebuffer.old store.old state.old) piece.now replies.old }
 {
     *consumed = 0;
     *replied = 0;
     let config = config_in(state);
     let port = decode_port(state);
-    let line = port.line;
-    let phase = line.phase;
-    let answer = check(framebuffer, store, state, config, phase);
-    if answer != DONE {
-        return answer;
-    }
+    check(framebuffer, store, state, config, port.line.phase)?;
     let ran = run_on(framebuffer, store, state, config, port, piece, replies);
     *consumed = ran.consumed;
     *replied = ran.replied;
-    ran.answer
+    ran.done
 }
 
 // Milliseconds that have passed, checked and answered as a piece of one byte is.
@@ -256,24 +262,18 @@ pub fn pass_time(
     milliseconds: u32,
     replies: &mut [u8],
     replied: &mut usize,
-) -> u32
-    ensures { timed result (memory framebuffer.now store.now state.new) replies.new replied.new ≡ time_call (memory framebuffer.now store.now state.old) milliseconds replies.old }
+) -> Result<(), Fault>
+    ensures { timed (number_of result) (memory framebuffer.now store.now state.new) replies.new replied.new ≡ time_call (memory framebuffer.now store.now state.old) milliseconds replies.old }
 {
     *replied = 0;
     let config = config_in(state);
     let port = decode_port(state);
-    let line = port.line;
-    let phase = line.phase;
-    let answer = check(framebuffer, store, state, config, phase);
-    if answer != DONE {
-        return answer;
-    }
+    check(framebuffer, store, state, config, port.line.phase)?;
     if replies.len() < REPLY_ROOM {
-        return NO_REPLY_ROOM;
+        return Err(Fault::NoReplyRoom);
     }
     let o = pass(port, milliseconds);
-    let next = o.port;
-    encode_port(next, state);
+    encode_port(o.port, state);
     *replied = send(replies, 0, o.reply);
-    DONE
+    Ok(())
 }

@@ -10,7 +10,8 @@ use lib.ListN.{length, take, drop, length-drop, take-append-drop}
 use lib.Seq.{drop_at, take-append-le, drop-append-le, length-take-le, drop-drop}
 use borrow.Author.Tests.{eqb-true}
 use Rattle.directory.specs.declared.Entry.{Entry}
-use Rattle.directory.specs.declared.Found.TheVariants.{At}
+use Rattle.std.specs.Prelude.{Some}
+use Rattle.directory.proofs.Laws.{located}
 use Rattle.directory.specs.Directory.{length_of, sort_of, entries, bytes_in, sizes_in, is_file, has_file, find_in, find_of, valid_of}
 use Rattle.file_laws.specs.Layout.{directory_of, before, after, without, size_of, moved_down, without_file, file_in, file_of, found_bytes}
 use Rattle.file_laws.proofs.Written.{Bytes, AllProper, valid, formed, entries_written, directory_long, bytes_append, proper_append, and_both}
@@ -20,7 +21,7 @@ use Rattle.file_laws.proofs.Delete.{split, proper_left, proper_right, bytes_cut,
 
 found_cons : (e : Entry) (es : List Entry) (p a k n : ℕ) (s : List ℕ) (t : Bool)
     → found_bytes (find_in es (p + length_of e.kind) (a + e.size) k n) s ≡ file_in es (drop (a + e.size) s) k n
-    → found_bytes (cond t (At p a e.size) (find_in es (p + length_of e.kind) (a + e.size) k n)) s ≡ cond t (take e.size (drop a s)) (file_in es (drop e.size (drop a s)) k n)
+    → found_bytes (cond t (Some (located p a e.size)) (find_in es (p + length_of e.kind) (a + e.size) k n)) s ≡ cond t (take e.size (drop a s)) (file_in es (drop e.size (drop a s)) k n)
 found_cons e es p a k n s true h = refl
 found_cons e es p a k n s false h = rw (drop-drop e.size a s) h
 

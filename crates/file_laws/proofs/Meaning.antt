@@ -9,9 +9,10 @@ use lib.ListN.{length, get_or, take, drop, set, length-drop, length-set, take-ap
 use lib.Seq.{drop_at, length-take-le}
 use borrow.Author.Tests.{le-leb}
 use Rattle.directory.specs.declared.Entry.{Entry}
-use Rattle.directory.specs.declared.Found.TheVariants.{At}
+use Rattle.std.specs.Prelude.{Option, Some}
+use Rattle.directory.specs.declared.Location.{Location}
 use Rattle.directory.specs.Directory.{length_of, entry_at, entries, bytes_in, sizes_in, is_file, has_file, find_in, find_of, valid_of}
-use Rattle.directory.proofs.Laws.{entry_kind}
+use Rattle.directory.proofs.Laws.{entry_kind, located}
 use Rattle.files.specs.Files.{appended, deletes, deleted, purged, stored_byte}
 use Rattle.files.specs.Moves.{files_closed, records_closed, closed}
 use Rattle.file_laws.specs.Layout.{directory_of, file_in, file_of, with_record, before, after, without, size_of, without_file, emptied}
@@ -38,27 +39,27 @@ append_means s e b v p h =
 
 find_cons : (t : Bool) (e : Entry) (es : List Entry) (p a k n : ℕ) → is_file e k n ≡ t
     → (has_file es k n ≡ true → find_in es (p + length_of e.kind) (a + e.size) k n
-    ≡ At (p + length_of e.kind + bytes_in (before es k n)) (a + e.size + sizes_in (before es k n)) (size_of es k n))
+    ≡ Some (located (p + length_of e.kind + bytes_in (before es k n)) (a + e.size + sizes_in (before es k n)) (size_of es k n)))
     → (t || has_file es k n) ≡ true
-    → find_in (e ∷ es) p a k n ≡ At (p + bytes_in (before (e ∷ es) k n)) (a + sizes_in (before (e ∷ es) k n)) (size_of (e ∷ es) k n)
+    → find_in (e ∷ es) p a k n ≡ Some (located (p + bytes_in (before (e ∷ es) k n)) (a + sizes_in (before (e ∷ es) k n)) (size_of (e ∷ es) k n))
 unfolding find_in before size_of bytes_in sizes_in
 find_cons true e es p a k n q i h =
     let x : p ≡ p + 0 = omega arith in
     let y : a ≡ a + 0 = omega arith in
-    rw q (ap (λ (m : ℕ). At m a e.size) x ∙ ap (λ (m : ℕ). At (p + 0) m e.size) y)
+    rw q (ap {B = Option Location} (λ (m : ℕ). Some (located m a e.size)) x ∙ ap {B = Option Location} (λ (m : ℕ). Some (located (p + 0) m e.size)) y)
 find_cons false e es p a k n q i h =
     let x : p + length_of e.kind + bytes_in (before es k n) ≡ p + (length_of e.kind + bytes_in (before es k n)) = omega arith in
     let y : a + e.size + sizes_in (before es k n) ≡ a + (e.size + sizes_in (before es k n)) = omega arith in
     rw (q, i h, x, y)
 
 -- where the file of this sort and number is found
-find_split : (es : List Entry) (p a k n : ℕ) → has_file es k n ≡ true → find_in es p a k n ≡ At (p + bytes_in (before es k n)) (a + sizes_in (before es k n)) (size_of es k n)
+find_split : (es : List Entry) (p a k n : ℕ) → has_file es k n ≡ true → find_in es p a k n ≡ Some (located (p + bytes_in (before es k n)) (a + sizes_in (before es k n)) (size_of es k n))
 unfolding has_file
 find_split [] p a k n h = absurd (false≢true h)
 find_split (e ∷ es) p a k n h = find_cons (is_file e k n) e es p a k n refl (λ g. find_split es (p + length_of e.kind) (a + e.size) k n g) h
 
 module _ (s : List ℕ) (b : Bytes s) (v : valid_of s ≡ true) (k n : ℕ) (has : has_file (entries s) k n ≡ true) where
-  pub found : find_of s k n ≡ At (bytes_in (before (entries s) k n)) (256 + sizes_in (before (entries s) k n)) (size_of (entries s) k n)
+  pub found : find_of s k n ≡ Some (located (bytes_in (before (entries s) k n)) (256 + sizes_in (before (entries s) k n)) (size_of (entries s) k n))
   found = find_split (entries s) 0 256 k n has ∙ (let x : 0 + bytes_in (before (entries s) k n) ≡ bytes_in (before (entries s) k n) = omega arith in rw x)
 
   pub delete_answers : deletes s k n ≡ true

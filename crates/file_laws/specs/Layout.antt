@@ -1,10 +1,9 @@
 -- The store written out from its entries: the directory's bytes, and the files end to end in directory order.
 -- Assumes nothing.
-use Rattle.std.specs.Prelude.{List, [], ◌∷◌, ◌++◌, Bool, cond, ℕ, ◌+◌, ◌-◌, length, take, drop, replicate}
+use Rattle.std.specs.Prelude.{List, [], ◌∷◌, ◌++◌, Option, Some, None, cond, ℕ, ◌+◌, ◌-◌, take, drop, replicate}
 use Rattle.std.proofs.Math.Seq.{paste}
 use Rattle.directory.specs.declared.Entry.{Entry}
-use Rattle.directory.specs.declared.Found.{Found}
-use Rattle.directory.specs.declared.Found.TheVariants.{At, Nothing}
+use Rattle.directory.specs.declared.Location.{Location}
 use Rattle.directory.specs.Directory.{entries, bytes_in, sizes_in, is_file}
 use Rattle.files.specs.Files.{record_bytes}
 
@@ -25,9 +24,9 @@ abbrev pub file_of : List ℕ → ℕ → ℕ → List ℕ
 file_of s k n = file_in (entries s) (drop 256 s) k n
 
 -- the bytes of a file that was found
-abbrev pub found_bytes : Found → List ℕ → List ℕ
-found_bytes (At p a z) s = take z (drop a s)
-found_bytes Nothing s = []
+abbrev pub found_bytes : Option Location → List ℕ → List ℕ
+found_bytes (Some f) s = take f.size (drop f.start s)
+found_bytes None s = []
 
 -- one entry more; the file area stays
 unfoldable pub with_record : List ℕ → Entry → List ℕ

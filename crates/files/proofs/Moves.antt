@@ -1,11 +1,11 @@
--- Bytes that are moved down, and zeros: the invariant of both loops; and the three moves of a delete.
+-- Bytes that are moved down: the invariant of the loop; and the three moves of a delete.
 -- Assumes nothing.
 use mathlib.Core.Path.{◌≡◌, refl, sym, ap, ◌∙◌}
 use mathlib.Core.List.{List}
 use Prim.Native.Nat.{ℕ, ◌+◌, ◌-◌, ◌≤◌, ◌<◌}
 use native.Mathlib.Omega.{arith}
 use native.Mathlib.Numerals.{add-one}
-use lib.ListN.{length, get_or, drop, set, replicate, length-set, get_or-replicate}
+use lib.ListN.{length, get_or, drop, set, replicate, length-set}
 use lib.Seq.{paste, paste-zero, paste-suc, drop-paste, get_or-drop}
 use Rattle.files.specs.Moves.{files_closed, records_closed, closed}
 
@@ -41,9 +41,6 @@ unmoved s₀ s to from n i p h k =
     let x : get_or s (from + i) 0 ≡ get_or (drop (to + i) s) (from - to) 0 = rw e (sym (get_or-drop (to + i) s (from - to) 0)) in
     let y : get_or (drop (to + i) s₀) (from - to) 0 ≡ get_or s₀ (from + i) 0 = rw e (get_or-drop (to + i) s₀ (from - to) 0) in
     x ∙ (ap (λ (l : List ℕ). get_or l (from - to) 0) d ∙ (y ∙ sym (get_or-drop from s₀ i 0)))
-
-pub zero_there : (s₀ s : List ℕ) (at n i : ℕ) → Pasting s₀ s (replicate n 0) at n i → i < n → ◌≡◌ {A = ℕ} 0 (get_or (replicate n 0) i 0)
-zero_there s₀ s at n i p h = sym (get_or-replicate n i 0 0 h)
 
 pub closed_is : (s s₁ s₂ s₃ : List ℕ) (at n end start next top : ℕ)
     → s₁ ≡ paste s start (drop next s) (top - next) → s₂ ≡ paste s₁ at (drop (at + n) s₁) (end - (at + n)) → s₃ ≡ paste s₂ (end - n) (replicate n 0) n

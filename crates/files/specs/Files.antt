@@ -1,11 +1,10 @@
 -- What is written to the store: a record more, a file less, none at all, a byte into free room.
 -- Of any bytes, whatever their number; where they are a store whose directory keeps its rules, file_laws says what each of these means.
 -- Assumes nothing.
-use Rattle.std.specs.Prelude.{List, [], ◌∷◌, Bool, true, false, cond, ◌&&◌, ℕ, ◌+◌, ◌-◌, ◌/◌, ◌%◌, ◌^◌, min, leb, length, get_or, set, replicate}
+use Rattle.std.specs.Prelude.{List, [], ◌∷◌, Option, Some, None, Bool, true, false, cond, ◌&&◌, ℕ, ◌+◌, ◌-◌, ◌/◌, ◌%◌, ◌^◌, min, leb, length, get_or, set, replicate}
 use Rattle.std.proofs.Math.Seq.{paste}
 use Rattle.directory.specs.declared.Entry.{Entry}
-use Rattle.directory.specs.declared.Found.{Found}
-use Rattle.directory.specs.declared.Found.TheVariants.{At, Nothing}
+use Rattle.directory.specs.declared.Location.{Location}
 use Rattle.directory.specs.Directory.{is_newer, length_of, entries, bytes_in, sizes_in, find_of}
 use Rattle.files.specs.Moves.{closed}
 
@@ -32,17 +31,17 @@ appended s e =
     cond (leb 256 (length s) && leb (bytes_in (entries s) + length_of e.kind) 256) (paste s (bytes_in (entries s)) (record_bytes e) (length_of e.kind)) s
 
 -- whether there is such a file, all files lying in the store
-abbrev pub is_there : Found → Bool
-is_there (At p a z) = true
-is_there Nothing = false
+abbrev pub is_there : Option Location → Bool
+is_there (Some found) = true
+is_there None = false
 
 unfoldable pub deletes : List ℕ → ℕ → ℕ → Bool
 deletes s k n = leb (256 + sizes_in (entries s)) (length s) && is_there (find_of s k n)
 
 -- the record, by its own length, and its file are closed over
-abbrev pub deleted_at : Found → ℕ → ℕ → List ℕ → List ℕ
-deleted_at (At p a z) end used s = closed s p (length_of (get_or s p 0)) end a (a + z) (256 + used)
-deleted_at Nothing end used s = s
+abbrev pub deleted_at : Option Location → ℕ → ℕ → List ℕ → List ℕ
+deleted_at (Some f) end used s = closed s f.«record» (length_of (get_or s f.«record» 0)) end f.start (f.start + f.size) (256 + used)
+deleted_at None end used s = s
 
 unfoldable pub deleted : List ℕ → ℕ → ℕ → List ℕ
 deleted s k n =

@@ -7,22 +7,18 @@ ghost use Rattle.files.specs.Moves.{closed};
 ghost use Rattle.directory.specs.Directory.{is_newer, length_of};
 ghost use Rattle.files.specs.Files.{unused_of, entry, record_bytes, appended, deletes, deleted, purged, stored_byte};
 
-use directory::{
-    DIRECTORY, Found, NEWER_LENGTH, OLDER_LENGTH, byte_at, find, least, record_length, tally,
-};
+use directory::{DIRECTORY, Location, NEWER_LENGTH, OLDER_LENGTH, find, record_length, tally};
+use lent_bytes::byte_at;
 
 // The room of the file area that files of so many bytes together leave.
 pub fn unused(store: &[u8], used: usize) -> usize
     ensures { result ≡ unused_of store.now used }
 {
-    if store.len() < DIRECTORY {
-        return 0;
-    }
-    let area = store.len() - DIRECTORY;
-    if used < area { area - used } else { 0 }
+    let area = store.len().saturating_sub(DIRECTORY);
+    area.saturating_sub(used)
 }
 
-// n bytes from byte `from` on, moved down to byte `to`.
+// n bytes from byte `from` on, moved down to byte `to`. By their numbers, as a byte is read in `lent_bytes`: `copy_within` goes by options of references.
 fn slide(s: &mut [u8], to: usize, from: usize, n: usize)
     requires { (to ≤ from) × (from + n ≤ length s.old) }
     ensures { s.new ≡ paste s.old to (drop from s.old) n }
@@ -37,8 +33,16 @@ fn zero(s: &mut [u8], at: usize, n: usize)
     requires { at + n ≤ length s.old }
     ensures { s.new ≡ paste s.old at (replicate n 0) n }
 {
-    for i in 0..n {
-        s[at + i] = 0;
+    s[at..at + n].fill(0);
+}
+
+// All of these bytes from byte `at` on. By their numbers: `copy_from_slice` asks for addresses, which have fewer bits on a processor of 32 bits.
+fn put(s: &mut [u8], at: usize, bytes: &[u8])
+    requires { at + length bytes.now ≤ length s.old }
+    ensures { s.new ≡ paste s.old at bytes.now (length bytes.now) }
+{
+    for i in 0..bytes.len() {
+        s[at + i] = bytes[i];
     }
 }
 
@@ -47,10 +51,9 @@ fn write_older(store: &mut [u8], p: usize, kind: u8, number: u16, size: u32)
     requires { (p + 4 ≤ length store.old) × (is_newer kind ≡ false) }
     ensures { store.new ≡ paste store.old p (record_bytes (entry kind number size)) 4 }
 {
-    store[p] = kind;
-    store[p + 1] = (number % 256) as u8;
-    store[p + 2] = (size % 256) as u8;
-    store[p + 3] = (size / 256 % 256) as u8;
+    let [number, _] = number.to_le_bytes();
+    let [low, high, ..] = size.to_le_bytes();
+    put(store, p, &[kind, number, low, high]);
 }
 
 // A record of the newer edition: a number of two bytes, a size of four.
@@ -58,13 +61,9 @@ fn write_newer(store: &mut [u8], p: usize, kind: u8, number: u16, size: u32)
     requires { (p + 7 ≤ length store.old) × (is_newer kind ≡ true) }
     ensures { store.new ≡ paste store.old p (record_bytes (entry kind number size)) 7 }
 {
-    store[p] = kind;
-    store[p + 1] = (number % 256) as u8;
-    store[p + 2] = (number / 256 % 256) as u8;
-    store[p + 3] = (size % 256) as u8;
-    store[p + 4] = (size / 256 % 256) as u8;
-    store[p + 5] = (size / 65536 % 256) as u8;
-    store[p + 6] = (size / 16777216 % 256) as u8;
+    let [low, high] = number.to_le_bytes();
+    let [first, second, third, fourth] = size.to_le_bytes();
+    put(store, p, &[kind, low, high, first, second, third, fourth]);
 }
 
 // The n bytes of a record; none where its kind is not known.
@@ -86,10 +85,8 @@ pub fn append(store: &mut [u8], kind: u8, number: u16, size: u32)
     let t = tally(store);
     let p = t.end;
     let n = record_length(kind);
-    if DIRECTORY <= store.len() {
-        if p + n <= DIRECTORY {
-            write_record(store, p, n, kind, number, size);
-        }
+    if DIRECTORY <= store.len() && p + n <= DIRECTORY {
+        write_record(store, p, n, kind, number, size);
     }
 }
 
@@ -114,11 +111,13 @@ pub fn delete(store: &mut [u8], sort: u8, number: u16) -> bool
         return false;
     }
     let found = find(store, sort, number);
-    let Found::At {
-        record,
-        start,
-        size,
-    } = found
+    let Some(
+        Location {
+            record,
+            start,
+            size,
+        },
+    ) = found
     else {
         return false;
     };
@@ -131,7 +130,7 @@ pub fn delete(store: &mut [u8], sort: u8, number: u16) -> bool
 pub fn purge(store: &mut [u8])
     ensures { store.new ≡ purged store.old }
 {
-    let n = least(DIRECTORY, store.len());
+    let n = DIRECTORY.min(store.len());
     zero(store, 0, n);
 }
 
@@ -139,7 +138,7 @@ pub fn purge(store: &mut [u8])
 pub fn store_byte(store: &mut [u8], used: u16, k: u16, byte: u8)
     ensures { store.new ≡ stored_byte store.old used k byte }
 {
-    let at = DIRECTORY + used as usize + k as usize;
+    let at = DIRECTORY + usize::from(used) + usize::from(k);
     if at < store.len() {
         store[at] = byte;
     }

@@ -3,13 +3,13 @@
 use mathlib.Core.Path.{◌≡◌, refl}
 use mathlib.Core.List.{List}
 use mathlib.Core.Bool.{Bool, true, false, ◌&&◌}
-use Prim.Native.Nat.{ℕ, zero, suc, ◌+◌, ◌-◌, ◌*◌, ◌≤◌, ◌<◌}
+use Prim.Native.Nat.{ℕ, zero, suc, ◌+◌, ◌*◌, ◌≤◌, ◌<◌}
 use native.Mathlib.Omega.{arith}
 use lib.Dec.{ltb, leb, eqb}
 use lib.ListN.{length, drop, length-drop}
 use borrow.Author.Tests.{le-leb, leb-true, ltb-true, eqb-true}
-use Rattle.fonts.specs.declared.Check.{Check}
-use Rattle.fonts.specs.declared.Check.TheVariants.{Good, Malformed}
+use Rattle.std.specs.Prelude.{Result, Ok, Err, ⊤}
+use Rattle.fonts.specs.declared.Malformed.{Malformed}
 use Rattle.fonts.specs.Checks.{between, check_of}
 use Rattle.fonts.specs.Bitmaps.{packed_bytes, bitmap_width, bitmap_height, is_bitmap}
 use Rattle.fonts.specs.Fonts.{nominal_width, height_of, first_of, last_of, count_of, offset_at, width_at, is_entry, are_entries, is_font, max_width}
@@ -23,13 +23,13 @@ and_right true b e = e
 and_right false b e = let z : ◌≡◌ {A = ℕ} 0 1 = cc in absurd (omega arith)
 
 -- what an answer says of the test
-pub good_is : (r : Check) (b : Bool) → r ≡ check_of b → r ≡ Good → b ≡ true
+pub good_is : (r : Result ⊤ Malformed) (b : Bool) → r ≡ check_of b → r ≡ Ok tt → b ≡ true
 good_is r true e h = refl
-good_is r false e h = let z : ◌≡◌ {A = ℕ} 0 1 = cc in absurd (omega arith)
+good_is r false e h = cc
 
-pub malformed_is : (r : Check) (b : Bool) → r ≡ check_of b → r ≡ Malformed → b ≡ false
-malformed_is r true e h = let z : ◌≡◌ {A = ℕ} 0 1 = cc in absurd (omega arith)
-malformed_is r false e h = refl
+pub malformed_is : (r : Result ⊤ Malformed) (b : Bool) (m : Malformed) → r ≡ check_of b → r ≡ Err m → b ≡ false
+malformed_is r true m e h = cc
+malformed_is r false m e h = refl
 
 pub record Within (a b n : ℕ) : Type 0 where
   pub from : a ≤ n

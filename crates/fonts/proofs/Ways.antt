@@ -2,17 +2,16 @@
 -- Assumes nothing.
 use mathlib.Core.Path.{◌≡◌, sym, ◌∙◌}
 use mathlib.Core.List.{List}
-use mathlib.Core.Bool.{Bool, true, false, ◌&&◌}
+use mathlib.Core.Bool.{Bool, true, false, not, ◌&&◌}
 use Prim.Native.Nat.{ℕ, suc, ◌+◌, ◌-◌, ◌*◌, ◌/◌, ◌≤◌, ◌<◌}
 use native.Mathlib.Omega.{arith}
 use native.Mathlib.Nat.{mul-le-mul}
 use lib.Dec.{leb, eqb}
 use lib.ListN.{length, get_or}
-use borrow.Author.Tests.{le-leb, lt-leb, le-ltb, lt-ltb}
+use borrow.Author.Tests.{le-leb, lt-leb}
 use Rattle.fonts.specs.declared.Entry.{Entry}
-use Rattle.fonts.specs.declared.Check.TheVariants.{Good, Malformed}
-use Rattle.fonts.specs.Checks.{between, check_of}
-use Rattle.fonts.specs.Bitmaps.{packed_bytes, bitmap_width, bitmap_height, is_bitmap}
+use Rattle.fonts.specs.Checks.{between}
+use Rattle.fonts.specs.Bitmaps.{packed_bytes}
 use Rattle.fonts.specs.Fonts.{nominal_width, height_of, first_of, last_of, count_of, offset_at, width_at, entry_of, is_entry, are_entries, is_font, max_width}
 
 -- ---- a product of two bytes
@@ -29,7 +28,7 @@ packed_is w h a b e f = rw (e, f)
 
 -- ---- 1 to a number
 
-pub between_zero : (m n : ℕ) → n ≡ 0 → false ≡ between 1 m n
+pub between_zero : (m n : ℕ) → n ≡ 0 → not (eqb n 0) ≡ between 1 m n
 unfolding between
 between_zero m n h = rw h
 
@@ -123,26 +122,3 @@ module _ (m : ℕ) (s : List ℕ) where
             let c : n + 1 ≡ count_of s = omega arith in
             let x : r ≡ are_entries (count_of s) 0 s = rw c at er in
             x ∙ sym (font_from k ∙ rw (le-leb (first_of s) (last_of s) (omega arith), le-leb (4 + 3 * count_of s) (length s) (omega arith)))
-
--- ---- a bitmap
-
-module _ (s : List ℕ) (w h : ℕ) (e : w ≡ bitmap_width s) (f : h ≡ bitmap_height s) where
-  pub bitmap_narrow : w ≡ 0 → false ≡ is_bitmap s
-  unfolding is_bitmap
-  bitmap_narrow z = rw (le-ltb 0 (bitmap_width s) (omega arith))
-
-  pub bitmap_flat : (w ≡ 0 → ⊥) → h ≡ 0 → false ≡ is_bitmap s
-  unfolding is_bitmap
-  bitmap_flat z y = rw (lt-ltb 0 (bitmap_width s) (omega arith), le-ltb 0 (bitmap_height s) (omega arith))
-
-  pub bitmap_ends : (n : ℕ) → (w ≡ 0 → ⊥) → (h ≡ 0 → ⊥) → n ≡ packed_bytes w h → eqb (length s) (2 + n) ≡ is_bitmap s
-  unfolding is_bitmap
-  bitmap_ends n z y g = rw (lt-ltb 0 (bitmap_width s) (omega arith), lt-ltb 0 (bitmap_height s) (omega arith), ← e, ← f, g)
-
--- ---- an answer
-
-pub answer_good : (b c : Bool) → b ≡ c → b ≡ true → Good ≡ check_of c
-answer_good b c e h = let x : c ≡ true = sym e ∙ h in rw x
-
-pub answer_bad : (b c : Bool) → b ≡ c → b ≡ false → Malformed ≡ check_of c
-answer_bad b c e h = let x : c ≡ false = sym e ∙ h in rw x

@@ -2,11 +2,13 @@
 #![tactic(auto)]
 
 ghost use Rattle.std.specs.Prelude.{◌≡◌, ◌≤◌, ◌<◌};
+ghost use Rattle.refusals.specs.declared.Refusal.TheVariants.{MalformedFile};
 ghost use Rattle.fonts.specs.Checks.{check_of, between};
 ghost use Rattle.fonts.specs.Bitmaps.{packed_bytes, bitmap_width, bitmap_height, is_bitmap};
 ghost use Rattle.fonts.specs.Fonts.{nominal_width, height_of, first_of, last_of, offset_at, width_at, entry_of, is_entry, are_entries, is_font};
 
-use directory::byte_at;
+use lent_bytes::byte_at;
+use refusals::Refusal;
 
 // A font: nominal width, height, first and last character, then an entry for each character.
 pub const HEADER: usize = 4;
@@ -19,10 +21,16 @@ pub const MAX_WIDTH: u8 = 240;
 // A bitmap: width, height, then its rows.
 pub const BITMAP_HEADER: usize = 2;
 
-#[derive(Clone, Copy)]
-pub enum Check {
-    Good,
-    Malformed,
+// The error of a file that is no font, or no bitmap.
+#[derive(Clone, Copy, Debug, PartialEq, Eq)]
+pub struct Malformed;
+
+impl From<Malformed> for Refusal {
+    ghost from_gives = { λ _ refusal. refusal ≡ MalformedFile };
+
+    fn from(_error: Malformed) -> Refusal {
+        Refusal::MalformedFile
+    }
 }
 
 // Where the rows of a character are in the file, and how wide it is.
@@ -32,17 +40,11 @@ pub struct Entry {
     pub width: u8,
 }
 
-fn wide(b: u8) -> usize
-    ensures { (result ≡ b) × (result < 256) }
-{
-    b as usize
-}
-
 // The bytes of w by h bits, packed row after row without gaps.
 pub fn packed_bytes(w: u8, h: u8) -> usize
     ensures { (result ≡ packed_bytes w h) × (result ≤ 8192) }
 {
-    (wide(w) * wide(h) + 7) / 8
+    (usize::from(w) * usize::from(h) + 7) / 8
 }
 
 pub fn nominal_width(file: &[u8]) -> u8
@@ -75,9 +77,7 @@ fn offset_at(file: &[u8], k: usize) -> usize
     ensures { (result ≡ offset_at file.now k) × (result < 65536) }
 {
     let at = HEADER + ENTRY * k;
-    let high = wide(byte_at(file, at));
-    let low = wide(byte_at(file, at + 1));
-    256 * high + low
+    usize::from(u16::from_be_bytes([byte_at(file, at), byte_at(file, at + 1)]))
 }
 
 fn width_at(file: &[u8], k: usize) -> u8
@@ -90,7 +90,7 @@ fn width_at(file: &[u8], k: usize) -> u8
 pub fn entry_at(file: &[u8], k: u8) -> Entry
     ensures { result ≡ entry_of file.now k }
 {
-    let n = wide(k);
+    let n = usize::from(k);
     Entry {
         offset: offset_at(file, n),
         width: width_at(file, n),
@@ -101,10 +101,7 @@ pub fn entry_at(file: &[u8], k: u8) -> Entry
 fn is_between(n: u8, most: u8) -> bool
     ensures { result ≡ between 1 most n }
 {
-    if n == 0 {
-        return false;
-    }
-    n <= most
+    n != 0 && n <= most
 }
 
 // Whether entry number k has a fair width and its rows are in the file.
@@ -113,12 +110,8 @@ fn is_entry(file: &[u8], k: usize) -> bool
     ensures { result ≡ is_entry file.now k }
 {
     let width = width_at(file, k);
-    if !is_between(width, MAX_WIDTH) {
-        return false;
-    }
-    let n = packed_bytes(width, height(file));
-    let end = offset_at(file, k) + n;
-    end <= file.len()
+    is_between(width, MAX_WIDTH)
+        && offset_at(file, k) + packed_bytes(width, height(file)) <= file.len()
 }
 
 // The first n entries.
@@ -126,16 +119,15 @@ fn are_entries(file: &[u8], n: usize) -> bool
     requires { n ≤ 256 }
     ensures { result ≡ are_entries n 0 file.now }
 {
-    let mut k = 0;
-    while k < n {
+    for k in 0..n {
         if !is_entry(file, k) {
             return false;
         }
-        k += 1;
     }
     true
 }
 
+// One way out after the other, since the count of characters is one only where their order is right.
 fn is_font(file: &[u8], max_height: u8) -> bool
     ensures { result ≡ is_font max_height file.now }
 {
@@ -153,21 +145,18 @@ fn is_font(file: &[u8], max_height: u8) -> bool
     if to < from {
         return false;
     }
-    let n = wide(to - from) + 1;
-    if file.len() < HEADER + ENTRY * n {
-        return false;
-    }
-    are_entries(file, n)
+    let n = usize::from(to - from) + 1;
+    HEADER + ENTRY * n <= file.len() && are_entries(file, n)
 }
 
 // Whether a file is a font for a framebuffer of max_height rows.
-pub fn check_font(file: &[u8], max_height: u8) -> Check
+pub fn check_font(file: &[u8], max_height: u8) -> Result<(), Malformed>
     ensures { result ≡ check_of (is_font max_height file.now) }
 {
     if is_font(file, max_height) {
-        Check::Good
+        Ok(())
     } else {
-        Check::Malformed
+        Err(Malformed)
     }
 }
 
@@ -188,21 +177,15 @@ fn is_bitmap(file: &[u8]) -> bool
 {
     let w = bitmap_width(file);
     let h = bitmap_height(file);
-    if w == 0 {
-        return false;
-    }
-    if h == 0 {
-        return false;
-    }
-    file.len() == BITMAP_HEADER + packed_bytes(w, h)
+    w != 0 && h != 0 && file.len() == BITMAP_HEADER + packed_bytes(w, h)
 }
 
-pub fn check_bitmap(file: &[u8]) -> Check
+pub fn check_bitmap(file: &[u8]) -> Result<(), Malformed>
     ensures { result ≡ check_of (is_bitmap file.now) }
 {
     if is_bitmap(file) {
-        Check::Good
+        Ok(())
     } else {
-        Check::Malformed
+        Err(Malformed)
     }
 }

@@ -5,10 +5,9 @@ use mathlib.Core.Bool.{Bool, true, false, not}
 use mathlib.Core.List.{List, []}
 use native.Mathlib.Omega.{arith}
 use Prim.Native.Nat.{ℕ, ◌%◌, ◌<◌, ◌≤◌}
-use lib.Dec.{leb, ltb}
+use lib.Dec.{leb}
 use lib.ListN.{set}
-use borrow.Author.Tests.{lt-ltb, le-ltb, le-leb, lt-leb}
-use Rattle.pixels.specs.Framebuffer.{width}
+use borrow.Author.Tests.{le-leb, lt-leb}
 use Rattle.bar_graph.specs.declared.Bar.{Bar}
 use Rattle.bar_graph.specs.Bars.{write_of, written_bar}
 use Rattle.strip_chart.specs.Strips.{shifted_strip}
@@ -21,27 +20,6 @@ use Rattle.state.specs.State.{state, bar_of, bar_slot, strip, bar_at, strip_at, 
 use Rattle.rules.specs.World.{world, quietly, refused}
 use Rattle.rules.specs.Bars.{apart, set_up_bar, write_bar, set_up_strip, shift_strip}
 use Rattle.graphs.specs.Graphs.{in_bounds_of}
-
--- ---- the tests
-
-module _ (h x1 y1 x2 y2 : ℕ) where
-  pub left_off : width ≤ x1 → false ≡ in_bounds_of h x1 y1 x2 y2
-  left_off a = rw (le-ltb x1 width a)
-
-  pub right_off : x1 < width → width ≤ x2 → false ≡ in_bounds_of h x1 y1 x2 y2
-  right_off a b = rw (lt-ltb x1 width a, le-ltb x2 width b)
-
-  pub top_off : x1 < width → x2 < width → h ≤ y1 → false ≡ in_bounds_of h x1 y1 x2 y2
-  top_off a b d = rw (lt-ltb x1 width a, lt-ltb x2 width b, le-ltb y1 h d)
-
-  pub bottom_is : x1 < width → x2 < width → y1 < h → ltb y2 h ≡ in_bounds_of h x1 y1 x2 y2
-  bottom_is a b d = rw (lt-ltb x1 width a, lt-ltb x2 width b, lt-ltb y1 h d)
-
-pub apart_not : (x1 y1 x2 y2 : ℕ) → x2 ≤ x1 → false ≡ apart x1 y1 x2 y2
-apart_not x1 y1 x2 y2 a = rw (le-ltb x1 x2 a)
-
-pub apart_rows : (x1 y1 x2 y2 : ℕ) → x1 < x2 → ltb y1 y2 ≡ apart x1 y1 x2 y2
-apart_rows x1 y1 x2 y2 a = rw (lt-ltb x1 x2 a)
 
 -- ---- set up
 

@@ -1,7 +1,7 @@
 // Commands of bar graphs and strip charts.
 #![tactic(auto)]
 
-ghost use Rattle.std.specs.Prelude.{◌≡◌, ◌<◌};
+ghost use Rattle.std.specs.Prelude.{◌≡◌};
 ghost use Rattle.rules.specs.Bars.{apart, set_up_bar, write_bar, set_up_strip, shift_strip};
 ghost use Rattle.outcome.specs.Contract.{unlent, lent, untold, told, Obeys};
 ghost use Rattle.graphs.specs.Graphs.{in_bounds_of};
@@ -10,46 +10,26 @@ use bar_graph::Bar;
 use canvas::WIDTH;
 use outcome::{Outcome, done, refused};
 use panel::{bar_at, set_bar, set_strip, strip_at};
-use refusals::{
-    CORNERS_OUT_OF_ORDER, NOT_SET_UP, NUMBER_OUT_OF_RANGE, OUT_OF_BOUNDS, UNKNOWN_TYPE,
-};
+use refusals::Refusal;
 use state::{BARS, Port, STRIPS};
 
-// The types of bars are numbers below this.
+// The types of bars are numbers below this: set_up_bar takes any byte, and refuses the others.
 const TYPES: u8 = 4;
 
 // The bit of a shift that moves right; the bits below it are the number.
 const RIGHT: u8 = 128;
 
-fn wide(x: u8) -> usize
-    ensures { (result ≡ x) × (result < 256) }
-{
-    x as usize
-}
-
 fn is_in_bounds(height: u8, x1: u8, y1: u8, x2: u8, y2: u8) -> bool
     ensures { result ≡ in_bounds_of height x1 y1 x2 y2 }
 {
-    if x1 as u16 >= WIDTH {
-        return false;
-    }
-    if x2 as u16 >= WIDTH {
-        return false;
-    }
-    if y1 >= height {
-        return false;
-    }
-    y2 < height
+    u16::from(x1) < WIDTH && u16::from(x2) < WIDTH && y1 < height && y2 < height
 }
 
 // Corners in order, and no side of one pixel.
 fn is_apart(x1: u8, y1: u8, x2: u8, y2: u8) -> bool
     ensures { result ≡ apart x1 y1 x2 y2 }
 {
-    if x1 >= x2 {
-        return false;
-    }
-    y1 < y2
+    x1 < x2 && y1 < y2
 }
 
 // The value is 0, and nothing is painted.
@@ -66,24 +46,24 @@ pub fn set_up_bar(
 ) -> Outcome
     ensures { Obeys (told height) (λ w. set_up_bar w number kind x1 y1 x2 y2) port unlent unlent (lent panel.old panel.new) result }
 {
-    if wide(number) >= BARS {
-        return refused(port, NUMBER_OUT_OF_RANGE);
+    if usize::from(number) >= BARS {
+        return refused(port, Refusal::NumberOutOfRange);
     }
     if kind >= TYPES {
-        return refused(port, UNKNOWN_TYPE);
+        return refused(port, Refusal::UnknownType);
     }
     if !is_in_bounds(height, x1, y1, x2, y2) {
-        return refused(port, OUT_OF_BOUNDS);
+        return refused(port, Refusal::OutOfBounds);
     }
     if !is_apart(x1, y1, x2, y2) {
-        return refused(port, CORNERS_OUT_OF_ORDER);
+        return refused(port, Refusal::CornersOutOfOrder);
     }
     let bar = Bar {
-        kind: kind,
-        x1: x1,
-        y1: y1,
-        x2: x2,
-        y2: y2,
+        kind,
+        x1,
+        y1,
+        x2,
+        y2,
         value: 0,
     };
     set_bar(panel, number, bar);
@@ -99,15 +79,14 @@ pub fn write_bar(
 ) -> Outcome
     ensures { Obeys untold (λ w. write_bar w number value) port (lent framebuffer.old framebuffer.new) unlent (lent panel.old panel.new) result }
 {
-    if wide(number) >= BARS {
-        return refused(port, NUMBER_OUT_OF_RANGE);
+    if usize::from(number) >= BARS {
+        return refused(port, Refusal::NumberOutOfRange);
     }
     let slot = bar_at(panel, number);
     if !slot.on {
-        return refused(port, NOT_SET_UP);
+        return refused(port, Refusal::NotSetUp);
     }
-    let bar = slot.bar;
-    let written = bar_graph::write_bar(framebuffer, bar, value);
+    let written = bar_graph::write_bar(framebuffer, slot.bar, value);
     set_bar(panel, number, written);
     done(port)
 }
@@ -124,14 +103,14 @@ pub fn set_up_strip(
 ) -> Outcome
     ensures { Obeys (told height) (λ w. set_up_strip w number x1 y1 x2 y2) port unlent unlent (lent panel.old panel.new) result }
 {
-    if wide(number) >= STRIPS {
-        return refused(port, NUMBER_OUT_OF_RANGE);
+    if usize::from(number) >= STRIPS {
+        return refused(port, Refusal::NumberOutOfRange);
     }
     if !is_in_bounds(height, x1, y1, x2, y2) {
-        return refused(port, OUT_OF_BOUNDS);
+        return refused(port, Refusal::OutOfBounds);
     }
     if !is_apart(x1, y1, x2, y2) {
-        return refused(port, CORNERS_OUT_OF_ORDER);
+        return refused(port, Refusal::CornersOutOfOrder);
     }
     set_strip(panel, number, x1, y1, x2, y2);
     done(port)
@@ -142,12 +121,12 @@ pub fn shift_strip(framebuffer: &mut [u8], panel: &[u8], port: Port, byte: u8) -
     ensures { Obeys untold (λ w. shift_strip w byte) port (lent framebuffer.old framebuffer.new) unlent (lent panel.now panel.now) result }
 {
     let number = byte % RIGHT;
-    if wide(number) >= STRIPS {
-        return refused(port, NUMBER_OUT_OF_RANGE);
+    if usize::from(number) >= STRIPS {
+        return refused(port, Refusal::NumberOutOfRange);
     }
     let strip = strip_at(panel, number);
     if !strip.on {
-        return refused(port, NOT_SET_UP);
+        return refused(port, Refusal::NotSetUp);
     }
     strip_chart::shift_strip(
         framebuffer,

@@ -6,12 +6,12 @@ use mathlib.Core.List.{List, []}
 use native.Mathlib.Omega.{arith}
 use Prim.Native.Nat.{ℕ, zero, suc, ◌+◌, ◌<◌, ◌≤◌}
 use lib.Dec.{eqb, ltb}
-use lib.ListN.{length, set}
-use lib.Seq.{set_out}
+use lib.ListN.{set}
 use borrow.Author.Tests.{eq-eqb, ne_eqb, eqb-true, lt-ltb, le-ltb}
-use Rattle.directory.specs.declared.Found.{Found}
-use Rattle.directory.specs.declared.Found.TheVariants.{At, Nothing}
+use Rattle.std.specs.Prelude.{Option, Some, None, is_some}
+use Rattle.directory.specs.declared.Location.{Location}
 use Rattle.directory.specs.Directory.{max_number, find_of}
+use Rattle.storage.proofs.Laws.{stored_is}
 use Rattle.file_laws.proofs.Written.{and_both}
 use Rattle.state.specs.declared.Command.{Command}
 use Rattle.state.specs.declared.Command.TheVariants.{Unknown, Clear, Home, SetPoint, SetPlace, WrapOn, WrapOff, ScrollOn, ScrollOff, ChooseFont, SetMetrics, SetColour, DrawPixel, DrawLine, ContinueLine, DrawFrame, FillRectangle, SetUpBar, WriteBar, SetUpStrip, ShiftStrip, ShowBitmap, DrawInline, UploadFont, UploadBitmap, DeleteFile, Purge, FlowOn, FlowOff, SetContrast, BacklightOn, BacklightOff, SetSerial}
@@ -28,13 +28,11 @@ use Rattle.record.specs.Reading.{panel_of}
 use Rattle.rules.specs.World.{World, world, edition, port, with_port, done, quietly, refused, arg, Outcome as Ruled}
 use Rattle.rules.specs.Numbers.{number_bytes, number_at}
 use Rattle.rules.specs.Text.{character}
-use Rattle.rules.specs.Pictures.{in_phase, inline_data}
-use Rattle.rules.specs.Files.{upload_data, upload_waits}
+use Rattle.rules.specs.Pictures.{in_phase}
 use Rattle.rules.specs.Step.{obey, outside, code, argument, alone, by_phase, waits, byte, time, outcome, after, refuse}
 use Rattle.outcome.specs.declared.Outcome.{Outcome}
 use Rattle.outcome.specs.Outcome.{in_phase_of, sent_by}
 use Rattle.outcome.specs.Contract.{Loan, found, left, Told, told_both, config_by, held, held_by, Came, Obeys}
-use Rattle.storage.proofs.Laws.{stored_not, stored_yes}
 
 -- ---- outside a command
 
@@ -132,16 +130,9 @@ module _ (b : ℕ) (c : Command) (n : ℕ) (named : c ≡ command_of b) where
 
 -- ---- arguments
 
--- no place is left for one more
-pub no_place : (l : List ℕ) (i b : ℕ) → length l ≡ 6 → 6 ≤ i → l ≡ set l i b
-no_place l i b e h = sym (set_out l i b (omega arith))
-
 -- in edition e
 pub other_code : (e k i : ℕ) → (k ≡ 98 → ⊥) → false ≡ (eqb k 98 && eqb (i + 1) (number_bytes e))
 other_code e k i h = rw (ne_eqb k 98 h)
-
-pub its_code : (e k i n : ℕ) → k ≡ 98 → n ≡ number_bytes e → eqb (i + 1) n ≡ (eqb k 98 && eqb (i + 1) (number_bytes e))
-its_code e k i n f g = rw (eq-eqb k 98 f, g)
 
 -- ---- a saved bitmap's number
 
@@ -166,16 +157,16 @@ module _ (g s : List ℕ) (st : State) (i b n : ℕ) (args : List ℕ) (due : eq
   unfolding argument
   bitmap_19 h = rw (due, ← kept, ← numbered, lt-ltb max_number n h)
 
-  module _ (f : Found) (low : n ≤ max_number) (sought : f ≡ find_of s 2 n) where
-    pub bitmap_22 : f ≡ Nothing → argument (world g s st) 98 i b ≡ refused 22 []
+  module _ (f : Option Location) (low : n ≤ max_number) (sought : f ≡ find_of s 2 n) where
+    pub bitmap_22 : f ≡ None → argument (world g s st) 98 i b ≡ refused 22 []
     unfolding argument
-    bitmap_22 e = rw (due, ← kept, ← numbered, le-ltb max_number n low, ← stored_not s 2 n f sought e)
+    bitmap_22 e = rw (due, ← kept, ← numbered, le-ltb max_number n low, ← stored_is s 2 n f false sought (sym (ap is_some e)))
 
-    pub bitmap_found : (p a z : ℕ) → f ≡ At p a z → argument (world g s st) 98 i b ≡ quietly (with_port (world g s st) (with_phase st.port (Gathering 98 (i + 1)) args))
+    pub bitmap_found : (o : Location) → f ≡ Some o → argument (world g s st) 98 i b ≡ quietly (with_port (world g s st) (with_phase st.port (Gathering 98 (i + 1)) args))
     unfolding argument command_of
-    bitmap_found p a z e =
+    bitmap_found o e =
         let k : ltb (i + 1) (arguments_of st.config.edition ShowBitmap) ≡ true = rw (eqb-true (i + 1) (number_bytes st.config.edition) due) (bytes_fewer st.config.edition) in
-        rw (due, ← kept, ← numbered, le-ltb max_number n low, ← stored_yes s 2 n p a z f sought e, k)
+        rw (due, ← kept, ← numbered, le-ltb max_number n low, ← stored_is s 2 n f true sought (sym (ap is_some e)), k)
 
 -- ---- other arguments
 
@@ -203,38 +194,14 @@ module _ (r : Config) (pt : Port) (k i b : ℕ) (t : Bool) (c : Command) (n : �
 
 -- ---- the phase
 
-module _ (w : World) (b : ℕ) where
-  in_phase_of_lem : (p : Phase) → (port w).line.phase ≡ p → outcome w (byte b) ≡ by_phase p w b
-  in_phase_of_lem p e = ap (λ (q : Phase). by_phase q w b) e
-
-  pub in_idle : (port w).line.phase ≡ Idle → outcome w (byte b) ≡ alone w b
-  unfolding by_phase
-  in_idle e = in_phase_of_lem Idle e
-
-  pub in_prefix : (port w).line.phase ≡ Prefix → outcome w (byte b) ≡ code w b
-  unfolding by_phase
-  in_prefix e = in_phase_of_lem Prefix e
-
-  pub in_gathering : (c g : ℕ) → (port w).line.phase ≡ Gathering c g → outcome w (byte b) ≡ argument w c g b
-  unfolding by_phase
-  in_gathering c g e = in_phase_of_lem (Gathering c g) e
-
-  pub in_inline : (x1 y1 x2 y2 d : ℕ) → (port w).line.phase ≡ Inline x1 y1 x2 y2 d → outcome w (byte b) ≡ inline_data w x1 y1 x2 y2 d b
-  unfolding by_phase
-  in_inline x1 y1 x2 y2 d e = in_phase_of_lem (Inline x1 y1 x2 y2 d) e
-
-  pub in_upload : (k n z i : ℕ) (v : Bool) (c t : ℕ) → (port w).line.phase ≡ Upload k n z i v c t → outcome w (byte b) ≡ upload_data w k n z i v c b
-  unfolding by_phase
-  in_upload k n z i v c t e = in_phase_of_lem (Upload k n z i v c t) e
+pub in_idle : (w : World) (b : ℕ) → (port w).line.phase ≡ Idle → outcome w (byte b) ≡ alone w b
+unfolding by_phase
+in_idle w b e = ap (λ (q : Phase). by_phase q w b) e
 
 -- ---- time
 
 abbrev Calm : Phase → Type 0
-Calm Idle = Unit {0}
-Calm Prefix = Unit {0}
-Calm (Gathering code got) = Unit {0}
-Calm (Inline x1 y1 x2 y2 came) = Unit {0}
-Calm (Upload sort number size stored waiting held waited) = ⊥
+Calm p = (sort number size stored : ℕ) (waiting : Bool) (held waited : ℕ) → p ≡ Upload sort number size stored waiting held waited → ⊥
 
 calm_waits : (p : Phase) (w : World) (ms : ℕ) → Calm p → waits p w ms ≡ quietly w
 unfolding waits
@@ -242,12 +209,8 @@ calm_waits Idle w ms h = refl
 calm_waits Prefix w ms h = refl
 calm_waits (Gathering code got) w ms h = refl
 calm_waits (Inline x1 y1 x2 y2 came) w ms h = refl
-calm_waits (Upload sort number size stored waiting held waited) w ms h = absurd h
+calm_waits (Upload sort number size stored waiting held waited) w ms h = absurd (h sort number size stored waiting held waited refl)
 
 -- no upload is under way
-pub time_calm : (w : World) (ms : ℕ) (p : Phase) → Calm p → (port w).line.phase ≡ p → outcome w (time ms) ≡ quietly w
-time_calm w ms p h e = ap (λ (q : Phase). waits q w ms) e ∙ calm_waits p w ms h
-
-pub time_upload : (w : World) (ms k n z i : ℕ) (v : Bool) (c t : ℕ) → (port w).line.phase ≡ Upload k n z i v c t → outcome w (time ms) ≡ upload_waits w k n z i v c t ms
-unfolding waits
-time_upload w ms k n z i v c t e = ap (λ (q : Phase). waits q w ms) e
+pub time_calm : (w : World) (ms : ℕ) → Calm (port w).line.phase → outcome w (time ms) ≡ quietly w
+time_calm w ms h = calm_waits (port w).line.phase w ms h

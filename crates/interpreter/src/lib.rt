@@ -10,10 +10,10 @@ ghost use Rattle.rules.specs.Step as Step;
 ghost use Rattle.outcome.specs.Contract.{unlent, lent, untold, told, told_edition, told_both, Obeys};
 
 use commands::{first_number, number_bytes, obey};
-use directory::{BITMAP, Found, MAX_NUMBER, find};
+use directory::{BITMAP, MAX_NUMBER, find};
 use outcome::{Outcome, done, in_phase, refused};
-use refusals::{NO_SUCH_FILE, NUMBER_OUT_OF_RANGE};
-use state::{ARGUMENTS, Config, Line, Phase, Port, arguments_of, command_of};
+use refusals::Refusal;
+use state::{ARGUMENTS, Command, Config, Line, Phase, Port, arguments_of};
 
 // The byte that begins a command.
 pub const PREFIX: u8 = 254;
@@ -32,7 +32,7 @@ fn take_code(
 ) -> Outcome
     ensures { Obeys (told_both config) (λ w. code w byte) port (lent framebuffer.old framebuffer.new) (lent store.old store.new) (lent panel.old panel.new) result }
 {
-    let command = command_of(byte);
+    let command = Command::from(byte);
     if arguments_of(config.edition, command) == 0 {
         let outside = in_phase(port, Phase::Idle);
         return obey(
@@ -53,11 +53,10 @@ fn gathered(port: Port, got: u8, byte: u8) -> [u8; ARGUMENTS]
     ensures { result ≡ set port.line.args got byte }
 {
     let mut args = port.line.args;
-    let i = got as usize;
-    if i >= ARGUMENTS {
-        return args;
+    let place = usize::from(got);
+    if place < ARGUMENTS {
+        args[place] = byte;
     }
-    args[i] = byte;
     args
 }
 
@@ -65,25 +64,17 @@ fn gathering(port: Port, code: u8, got: u8, args: [u8; ARGUMENTS]) -> Port
     ensures { result ≡ with_phase port (Gathering code got) args }
 {
     let line = Line {
-        phase: Phase::Gathering {
-            code: code,
-            got: got,
-        },
-        args: args,
+        phase: Phase::Gathering { code, got },
+        args,
     };
-    let mut next = port;
-    next.line = line;
-    next
+    Port { line, ..port }
 }
 
 // Whether the last byte of a saved bitmap's number is due.
 fn is_bitmap_due(edition: u8, code: u8, got: u8) -> bool
     ensures { result ≡ (eqb code 98 && eqb (got + 1) (number_bytes edition)) }
 {
-    if code != SHOW_BITMAP {
-        return false;
-    }
-    got as usize + 1 == number_bytes(edition)
+    code == SHOW_BITMAP && usize::from(got) + 1 == number_bytes(edition)
 }
 
 // It comes: a number that is too high, or that the directory does not have, ends the command.
@@ -94,16 +85,10 @@ fn take_bitmap(store: &[u8], port: Port, edition: u8, got: u8, byte: u8) -> Outc
     let args = gathered(port, got, byte);
     let number = first_number(edition, args);
     if number > MAX_NUMBER {
-        return refused(port, NUMBER_OUT_OF_RANGE);
+        return refused(port, Refusal::NumberOutOfRange);
     }
-    let found = find(store, BITMAP, number);
-    let Found::At {
-        record: _,
-        start: _,
-        size: _,
-    } = found
-    else {
-        return refused(port, NO_SUCH_FILE);
+    let Some(_) = find(store, BITMAP, number) else {
+        return refused(port, Refusal::NoSuchFile);
     };
     done(gathering(port, SHOW_BITMAP, got + 1, args))
 }
@@ -124,9 +109,9 @@ fn take_argument(
     if is_bitmap_due(config.edition, code, got) {
         return take_bitmap(store, port, config.edition, got, byte);
     }
-    let command = command_of(code);
+    let command = Command::from(code);
     let args = gathered(port, got, byte);
-    if got as u16 + 1 < arguments_of(config.edition, command) as u16 {
+    if u16::from(got) + 1 < u16::from(arguments_of(config.edition, command)) {
         return done(gathering(port, code, got + 1, args));
     }
     let outside = in_phase(port, Phase::Idle);
@@ -144,6 +129,7 @@ fn take_alone(framebuffer: &mut [u8], store: &[u8], port: Port, height: u8, byte
 }
 
 // A byte of the stream.
+#[tactic(auto, using(outcome::proofs::Laws::obeys_as), unfolding(rules::specs::Step::by_phase))]
 pub fn step(
     framebuffer: &mut [u8],
     store: &mut [u8],
@@ -154,9 +140,8 @@ pub fn step(
 ) -> Outcome
     ensures { Obeys (told_both config) (λ w. outcome w (Step.byte byte)) port (lent framebuffer.old framebuffer.new) (lent store.old store.new) (lent panel.old panel.new) result }
 {
-    let line = port.line;
-    let phase = line.phase;
-    match phase {
+    // Each phase has parts of its own, so a table of functions would be no plainer.
+    match port.line.phase {
         Phase::Idle => take_alone(framebuffer, store, port, config.height, byte),
         Phase::Prefix => take_code(framebuffer, store, panel, port, config, byte),
         Phase::Gathering { code, got } => {
@@ -176,7 +161,7 @@ pub fn step(
             stored,
             waiting,
             byte: held,
-            waited: _,
+            ..
         } => {
             let edition = config.edition;
             storage::upload_data(
@@ -187,40 +172,31 @@ pub fn step(
 }
 
 // Milliseconds pass; only an upload under way minds.
+#[tactic(auto, using(outcome::proofs::Laws::obeys_as), unfolding(rules::specs::Step::waits))]
 pub fn pass(port: Port, milliseconds: u32) -> Outcome
     ensures { Obeys untold (λ w. outcome w (time milliseconds)) port unlent unlent unlent result }
 {
-    let line = port.line;
-    let phase = line.phase;
-    match phase {
-        Phase::Idle => done(port),
-        Phase::Prefix => done(port),
-        Phase::Gathering { code: _, got: _ } => done(port),
-        Phase::Inline {
-            x1: _,
-            y1: _,
-            x2: _,
-            y2: _,
-            done: _,
-        } => done(port),
-        Phase::Upload {
-            sort,
-            number,
-            size,
-            stored,
-            waiting,
-            byte: held,
-            waited,
-        } => storage::upload_waits(
-            port,
-            sort,
-            number,
-            size,
-            stored,
-            waiting,
-            held,
-            waited,
-            milliseconds,
-        ),
-    }
+    let Phase::Upload {
+        sort,
+        number,
+        size,
+        stored,
+        waiting,
+        byte: held,
+        waited,
+    } = port.line.phase
+    else {
+        return done(port);
+    };
+    storage::upload_waits(
+        port,
+        sort,
+        number,
+        size,
+        stored,
+        waiting,
+        held,
+        waited,
+        milliseconds,
+    )
 }

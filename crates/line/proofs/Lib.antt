@@ -1,4 +1,3 @@
-pub mod Ints
 pub mod Rise
 pub mod Steps
 pub mod Tracing

@@ -2,17 +2,17 @@
 -- Assumes nothing.
 use mathlib.Core.Path.{◌≡◌, sym, ap, ◌∙◌}
 use mathlib.Core.Bool.{true, false}
-use Prim.Native.Nat.{ℕ, zero, suc, ◌+◌, ◌-◌, ◌*◌, ◌/◌, ◌<◌, ◌≤◌}
+use Prim.Native.Nat.{ℕ, zero, suc, ◌+◌, ◌*◌, ◌/◌, ◌<◌, ◌≤◌}
 use native.Mathlib.Omega.{arith}
 use native.Mathlib.Nat.{mul-le-mul_right, div-eq_of_lt-le, div-lt_iff_lt-mul, div-mul-le_self, lt-div-mul-add, div-zero}
 use native.Mathlib.Decide.{dec_lt}
-use lib.IntN.{ℤ, pos, sub_ℕ, ◌+ℤ◌, ◌-ℤ◌}
+use lib.IntN.{ℤ, pos, ◌+ℤ◌, ◌-ℤ◌}
 use lib.Signed.{lt_z}
 use borrow.Author.Tests.{lt-ltb, le-ltb}
 use Rattle.line.specs.declared.Walker.{Walker}
 use Rattle.line.specs.Line.{distance, towards, rise}
 use Rattle.line.specs.Walk.{direction_of, walker, slope, step_of, slope_of}
-use Rattle.line.proofs.Ints.{sub_yes, sub_add, sub_less, sub_below, sub_above}
+use Rattle.std.proofs.lemmas.Int.{ints}
 
 -- ---- the rise
 
@@ -49,7 +49,7 @@ unfolding towards direction_of
 towards_step p q n h =
     elim (dec_lt p q) [
       | yes l ↦ rw (lt-ltb p q l) (ap pos (omega arith))
-      | no l ↦ rw (le-ltb p q (omega arith), lt-ltb q p (omega arith)) (sub_yes (p - n) 1 (omega arith) ∙ ap pos (omega arith))
+      | no l ↦ rw (le-ltb p q (omega arith), lt-ltb q p (omega arith)) (omega (arith, ints))
     ]
 
 pub towards_none : (p q : ℕ) → towards p q 0 ≡ p
@@ -76,7 +76,7 @@ step_high a sa b sb e up down a' b' m e' p q t r s = rw (p, q, t, r, s)
 -- the walker after i steps, the minor axis k steps on: the error term is the remainder of the division, less the divisor
 abbrev walker_by : ℕ → ℕ → ℕ → ℕ → ℕ → ℕ → Walker
 walker_by a1 a2 b1 b2 i k =
-    walker (pos (towards a1 a2 i)) (pos (towards b1 b2 k)) (sub_ℕ (2 * (i * distance b1 b2) + distance a1 a2) ((k + 1) * (2 * distance a1 a2)))
+    walker (pos (towards a1 a2 i)) (pos (towards b1 b2 k)) (pos (2 * (i * distance b1 b2) + distance a1 a2) -ℤ pos ((k + 1) * (2 * distance a1 a2)))
 
 -- and k by the rule
 unfoldable pub walker_at : ℕ → ℕ → ℕ → ℕ → ℕ → Walker
@@ -88,16 +88,11 @@ pub step_at_lem : (a1 a2 b1 b2 i : ℕ) → distance b1 b2 ≤ distance a1 a2 �
 unfolding walker_at slope_of
 step_at_lem a1 a2 b1 b2 i h l =
     elim (dec_lt (2 * (i * e) + d + (e + e)) ((k + 1) * (2 * d))) [
-      | yes q ↦ step_low _ _ _ _ _ _ _ _ _ (towards_step a1 a2 i l)
-          (sub_add (2 * (i * e) + d) ((k + 1) * (2 * d)) (e + e) ∙ ap (λ (n : ℕ). sub_ℕ n ((k + 1) * (2 * d))) more)
-          (rw (sym more) (sub_below _ _ q))
+      | yes q ↦ step_low _ _ _ _ _ _ _ _ _ (towards_step a1 a2 i l) (omega (arith, ints)) (grind (arith, ints))
           ∙ ap (walker_by a1 a2 b1 b2 (i + 1)) (sym (rise_is d e (i + 1) k (omega (arith, rise_low d e i)) (omega arith)))
       | no q ↦ (let r : rise d e (i + 1) ≡ k + 1 = rise_is d e (i + 1) (k + 1) (omega arith) (omega (arith, rise_high d e i (omega arith))) in
           let t : k < e = omega (arith, rise_le d e (i + 1) (omega arith)) in
-          step_high _ _ _ _ _ _ _ _ _ _ _ (towards_step a1 a2 i l) (sub_add (2 * (i * e) + d) ((k + 1) * (2 * d)) (e + e))
-          (sub_above (2 * (i * e) + d + (e + e)) ((k + 1) * (2 * d)) (omega arith)) (towards_step b1 b2 k t)
-          (sub_less (2 * (i * e) + d + (e + e)) ((k + 1) * (2 * d)) (d + d) (omega arith)
-          ∙ ap (λ (n : ℕ). sub_ℕ n ((k + 1) * (2 * d) + (d + d))) more ∙ ap (λ (n : ℕ). sub_ℕ (2 * ((i + 1) * e) + d) n) twice)
+          step_high _ _ _ _ _ _ _ _ _ (pos (2 * (i * e) + d + (e + e)) -ℤ pos ((k + 1) * (2 * d))) _ (towards_step a1 a2 i l) (omega (arith, ints)) (grind (arith, ints)) (towards_step b1 b2 k t) (omega (arith, ints))
           ∙ ap (walker_by a1 a2 b1 b2 (i + 1)) (sym r))
     ]
   where
@@ -109,10 +104,3 @@ step_at_lem a1 a2 b1 b2 i h l =
 
     k : ℕ
     k = rise (distance a1 a2) (distance b1 b2) i
-
-    more : 2 * (i * distance b1 b2) + distance a1 a2 + (distance b1 b2 + distance b1 b2) ≡ 2 * ((i + 1) * distance b1 b2) + distance a1 a2
-    more = omega arith
-
-    twice : (rise (distance a1 a2) (distance b1 b2) i + 1) * (2 * distance a1 a2) + (distance a1 a2 + distance a1 a2)
-        ≡ (rise (distance a1 a2) (distance b1 b2) i + 1 + 1) * (2 * distance a1 a2)
-    twice = omega arith

@@ -8,7 +8,7 @@ use native.Mathlib.Omega.{arith}
 use native.Mathlib.Numerals.{add-one}
 use lib.Dec.{le→leb}
 use lib.ListN.{length}
-use lib.IntN.{pos, negsuc, sub_ℕ, neg_ℤ}
+use lib.IntN.{pos, neg_ℤ, ◌-ℤ◌}
 use lib.Signed.{mag, le_z_yes}
 use borrow.Author.Tests.{le-leb, lt-leb}
 use Rattle.pixels.specs.Framebuffer.{fill}
@@ -20,7 +20,7 @@ use Rattle.line.specs.declared.Walker.{Walker}
 use Rattle.line.specs.declared.Slope.{Slope}
 use Rattle.line.specs.Line.{distance, towards, rise, path, line_x, line_y, line}
 use Rattle.line.specs.Walk.{step_of, slope_of, start_of, column_of, row_of, trace_x, trace_y, traced, WalkerInRange, SlopeInRange}
-use Rattle.line.proofs.Ints.{sub_yes, sub_no}
+use Rattle.std.proofs.lemmas.Int.{ints}
 use Rattle.line.proofs.Rise.{walker_at, step_at_lem, towards_none, towards_below, rise_low, rise_high, rise_le, rise_none}
 use Rattle.line.proofs.Steps.{direction_below, walker_same}
 
@@ -34,9 +34,8 @@ start_at a1 a2 b1 b2 =
     none : rise (distance a1 a2) (distance b1 b2) 0 ≡ 0
     none = rise_none (distance a1 a2) (distance b1 b2)
 
-    error : (d : ℕ) → neg_ℤ (pos d) ≡ sub_ℕ (2 * (0 * distance b1 b2) + d) ((0 + 1) * (2 * d))
-    error zero = sym (sub_yes (2 * (0 * distance b1 b2) + 0) ((0 + 1) * (2 * 0)) (omega arith) ∙ ap pos (omega arith))
-    error (suc d) = sym (sub_no (2 * (0 * distance b1 b2) + suc d) ((0 + 1) * (2 * suc d)) (omega arith) ∙ ap negsuc (omega arith))
+    error : (d : ℕ) → neg_ℤ (pos d) ≡ pos (2 * (0 * distance b1 b2) + d) -ℤ pos ((0 + 1) * (2 * d))
+    error d = omega (arith, ints)
 
 -- two bytes on each axis, the major axis first
 pub record Ends (a1 a2 b1 b2 : ℕ) : Type 0 where
@@ -56,6 +55,9 @@ slope_in_range a1 a2 b1 b2 h =
       twice_run_below = omega arith;
     }
 
+apart : (a b n : ℕ) → a < b + n → b < a + n → mag (pos a -ℤ pos b) < n
+apart a b n h k = grind (arith, ints)
+
 walker_in_range : (a1 a2 b1 b2 i : ℕ) → Ends a1 a2 b1 b2 → i ≤ distance a1 a2 → WalkerInRange (walker_at a1 a2 b1 b2 i)
 unfolding walker_at
 walker_in_range a1 a2 b1 b2 i h u =
@@ -67,13 +69,9 @@ walker_in_range a1 a2 b1 b2 i h u =
       error_below = error (distance a1 a2) (distance b1 b2) i (omega arith) u;
     }
   where
-    error : (d e i : ℕ) → d < 256 → i ≤ d → mag (sub_ℕ (2 * (i * e) + d) ((rise d e i + 1) * (2 * d))) < 100000
-    error zero e i s l =
-        let z : i ≡ 0 = omega arith in
-        rw (sub_yes (2 * (i * e) + 0) ((rise 0 e i + 1) * (2 * 0)) (omega arith)) (rw z (omega arith))
-    error (suc d) e i s l =
-        rw (sub_no (2 * (i * e) + suc d) ((rise (suc d) e i + 1) * (2 * suc d)) (omega (arith, rise_high (suc d) e i (omega arith))))
-        (omega (arith, rise_low (suc d) e i))
+    error : (d e i : ℕ) → d < 256 → i ≤ d → mag (pos (2 * (i * e) + d) -ℤ pos ((rise d e i + 1) * (2 * d))) < 100000
+    error zero e i s l = let z : i ≡ 0 = omega arith in rw (z, rise_none 0 e) (omega (arith, ints))
+    error (suc d) e i s l = apart (2 * (i * e) + suc d) ((rise (suc d) e i + 1) * (2 * suc d)) 100000 (omega (arith, rise_high (suc d) e i (omega arith))) (omega (arith, rise_low (suc d) e i))
 
 -- ---- the loop
 

@@ -4,10 +4,11 @@
 
 ghost use Rattle.std.specs.Prelude.{◌≤◌, length};
 
+use arrayvec::ArrayVec;
 use canvas::{LOW_HEIGHT, LOW_LENGTH, TALL_HEIGHT, TALL_LENGTH, WIDTH, is_black};
 use display::{display_feed, display_start};
 use feed::STORE_MOST;
-use state::OLDER;
+use state::{OLDER, Refusals};
 use std::io;
 use std::io::Read;
 use std::rt::Env;
@@ -20,112 +21,64 @@ const ROOM: usize = 8192;
 // Replies that are listed at most.
 const SHOWN: usize = 4096;
 
-// The first black column from x on, or the width.
-fn next_black(framebuffer: &[u8], x: u16, y: u16) -> u16
-    ensures { x ≤ result }
+// The first column from x on that is black, or the first that is not; the width where there is none.
+fn next_column(framebuffer: &[u8], black: bool, x: u16, y: u16) -> u16
+    requires { x ≤ 240 }
+    ensures { (x ≤ result) × (result ≤ 240) }
 {
-    let mut next = x;
-    while next < WIDTH {
-        if is_black(framebuffer, next, y) {
-            return next;
-        }
-        next += 1;
-    }
-    next
-}
-
-// The column behind the black run that goes on from x.
-fn run_end(framebuffer: &[u8], x: u16, y: u16) -> u16
-    ensures { x ≤ result }
-{
-    let mut end = x;
-    while end < WIDTH {
-        if !is_black(framebuffer, end, y) {
-            return end;
-        }
-        end += 1;
-    }
-    end
-}
-
-fn show_run(rt: &impl Print, first: u16, last: u16) -> io::Result<()> {
-    print!(rt; " {first}-{last}")
+    (x..WIDTH)
+        .find(|&column| is_black(framebuffer, column, y) == black)
+        .unwrap_or(WIDTH)
 }
 
 fn show_row(rt: &impl Print, framebuffer: &[u8], y: u16) -> io::Result<()> {
-    let mut x = next_black(framebuffer, 0, y);
-    if x >= WIDTH {
+    let mut x = next_column(framebuffer, true, 0, y);
+    if x == WIDTH {
         return Ok(());
     }
     print!(rt; "{y}:")?;
+    // From run to run, and not from column to column.
     while x < WIDTH {
-        let end = run_end(framebuffer, x + 1, y);
-        show_run(rt, x, end - 1)?;
-        x = next_black(framebuffer, end, y);
+        let end = next_column(framebuffer, false, x + 1, y);
+        let last = end - 1;
+        print!(rt; " {x}-{last}")?;
+        x = next_column(framebuffer, true, end, y);
     }
     rt.write_all(b"\n")
 }
 
 fn show_framebuffer(rt: &impl Print, framebuffer: &[u8], height: u8) -> io::Result<()> {
     println!(rt; "glass 240 {height}")?;
-    let end = height as u16;
-    for y in 0..end {
+    for y in 0..u16::from(height) {
         show_row(rt, framebuffer, y)?;
     }
     Ok(())
 }
 
 fn show_refusals(rt: &impl Print, state: &[u8]) -> io::Result<()> {
-    let port = record::decode_port(state);
-    let refusals = port.refusals;
-    let count = refusals.count;
-    let last = refusals.last;
+    let Refusals { count, last } = record::decode_port(state).refusals;
     println!(rt; "refused {count} last {last}")
-}
-
-fn show_reply(rt: &impl Print, byte: u8) -> io::Result<()> {
-    print!(rt; " {byte}")
 }
 
 fn show_replies(rt: &impl Print, shown: &[u8]) -> io::Result<()> {
     rt.write_all(b"replies")?;
     for byte in shown {
-        show_reply(rt, *byte)?;
+        print!(rt; " {byte}")?;
     }
     rt.write_all(b"\n")
 }
 
-// Puts replies behind the first `count` that are listed, as far as there is room; the answer is the new count.
-fn keep(shown: &mut [u8], count: usize, replies: &[u8]) -> usize
-    requires { count ≤ length shown.old }
-    ensures { result ≤ length shown.old }
-{
-    let mut at = count;
-    for byte in replies {
-        if at >= shown.len() {
-            return at;
-        }
-        shown[at] = *byte;
-        at += 1;
-    }
-    at
-}
-
-// Feeds a piece; its replies are put with those that are listed.
+// Feeds a piece; its replies are put behind those that are listed, as far as there is room.
 fn feed(
     framebuffer: &mut [u8],
     store: &mut [u8],
     state: &mut [u8],
     piece: &[u8],
-    shown: &mut [u8],
-    count: usize,
-) -> usize
-    requires { count ≤ length shown.old }
-    ensures { result ≤ length shown.old }
-{
+    shown: &mut ArrayVec<u8, SHOWN>,
+) {
     let mut replies = [0u8; ROOM];
-    let mut consumed = 0usize;
-    let mut replied = 0usize;
+    let mut consumed = 0;
+    let mut replied = 0;
     display_feed(
         framebuffer,
         store,
@@ -135,19 +88,18 @@ fn feed(
         &mut consumed,
         &mut replied,
     );
-    if replied > ROOM {
-        return count;
+    if replied <= ROOM {
+        for byte in &replies[..replied] {
+            if shown.is_full() {
+                return;
+            }
+            shown.push(*byte);
+        }
     }
-    keep(shown, count, &replies[..replied])
 }
 
-#[derive(Clone, Copy)]
-struct Turn {
-    more: bool,
-    count: usize,
-}
-
-// Reads until the piece is full or the input ends, or cannot be read; the answer is the number of bytes that were read.
+// Reads until the piece is full or the input ends, or cannot be read; the answer is the number of bytes that were read. Counted by hand, since a
+// read is of any length.
 fn read_full(input: &mut impl Read, piece: &mut [u8]) -> usize
     ensures { result ≤ length piece.new }
 {
@@ -164,51 +116,22 @@ fn read_full(input: &mut impl Read, piece: &mut [u8]) -> usize
     done
 }
 
-// Reads a piece and feeds it; the answer says whether there may be more.
-fn obey_some(
-    input: &mut impl Read,
-    framebuffer: &mut [u8],
-    store: &mut [u8],
-    state: &mut [u8],
-    shown: &mut [u8],
-    count: usize,
-) -> Turn
-    requires { count ≤ length shown.old }
-    ensures { result.count ≤ length shown.old }
-{
-    let mut piece = [0u8; PIECE];
-    let n = read_full(input, &mut piece);
-    if n == 0 {
-        return Turn {
-            more: false,
-            count: count,
-        };
-    }
-    Turn {
-        more: true,
-        count: feed(framebuffer, store, state, &piece[..n], shown, count),
-    }
-}
-
 // A proved loop has to end, and nothing says that the input does: so it counts to a number that no run reaches.
 fn obey_all(
     input: &mut impl Read,
     framebuffer: &mut [u8],
     store: &mut [u8],
     state: &mut [u8],
-    shown: &mut [u8],
-) -> usize
-    ensures { result ≤ length shown.old }
-{
-    let mut count = 0;
+    shown: &mut ArrayVec<u8, SHOWN>,
+) {
+    let mut piece = [0u8; PIECE];
     for _ in 0..u64::MAX {
-        let turn = obey_some(input, framebuffer, store, state, shown, count);
-        count = turn.count;
-        if !turn.more {
+        let n = read_full(input, &mut piece);
+        if n == 0 {
             break;
         }
+        feed(framebuffer, store, state, &piece[..n], shown);
     }
-    count
 }
 
 // Whether the first argument is 128, and not one byte more.
@@ -217,16 +140,7 @@ fn is_tall(rt: &impl Env) -> bool {
     let Ok(n) = rt.arg(1, &mut word) else {
         return false;
     };
-    if n != 3 {
-        return false;
-    }
-    if word[0] != b'1' {
-        return false;
-    }
-    if word[1] != b'2' {
-        return false;
-    }
-    word[2] == b'8'
+    n == 3 && word == *b"128"
 }
 
 fn list(rt: &(impl Input + Print), framebuffer: &mut [u8], height: u8) -> io::Result<()> {
@@ -234,19 +148,19 @@ fn list(rt: &(impl Input + Print), framebuffer: &mut [u8], height: u8) -> io::Re
     let mut state = [0u8; record::RECORD];
     let mut queue = [0u8; queue::RECORD];
     display_start(
-        height as u32,
-        OLDER as u32,
+        u32::from(height),
+        u32::from(OLDER),
         framebuffer,
         &mut store,
         &mut state,
         &mut queue,
     );
-    let mut shown = [0u8; SHOWN];
+    let mut shown = ArrayVec::new();
     let mut input = rt.reader();
-    let count = obey_all(&mut input, framebuffer, &mut store, &mut state, &mut shown);
+    obey_all(&mut input, framebuffer, &mut store, &mut state, &mut shown);
     show_framebuffer(rt, framebuffer, height)?;
     show_refusals(rt, &state)?;
-    show_replies(rt, &shown[..count])
+    show_replies(rt, &shown)
 }
 
 fn main(rt: HostRuntime) -> io::Result<()> {

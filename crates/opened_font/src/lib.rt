@@ -16,31 +16,28 @@ pub struct Font<'a> {
 
 // Where the rows of a character are in the file, and its box.
 #[derive(Clone, Copy)]
-pub enum Glyph {
-    At {
-        offset: usize,
-        width: u8,
-        height: u8,
-    },
-    Missing,
+pub struct Glyph {
+    pub offset: usize,
+    pub width: u8,
+    pub height: u8,
 }
 
 // A character of the font that a file is, of this height and from this character on.
-fn glyph_in(file: &[u8], height: u8, first: u8, character: u8) -> Glyph
+fn glyph_in(file: &[u8], height: u8, first: u8, character: u8) -> Option<Glyph>
     ensures { result ≡ glyph_in file.now height first character }
 {
     if character < first {
-        return Glyph::Missing;
+        return None;
     }
     if last(file) < character {
-        return Glyph::Missing;
+        return None;
     }
     let e = entry_at(file, character - first);
-    Glyph::At {
+    Some(Glyph {
         offset: e.offset,
         width: e.width,
         height,
-    }
+    })
 }
 
 pub fn open<'a>(file: &'a [u8]) -> Font<'a>
@@ -55,14 +52,14 @@ pub fn open<'a>(file: &'a [u8]) -> Font<'a>
     }
 }
 
-pub fn lookup<'a>(font: Font<'a>, character: u8) -> Glyph
+pub fn lookup<'a>(font: Font<'a>, character: u8) -> Option<Glyph>
     ensures { result ≡ glyph_in font.entry.file.now font.entry.height font.entry.first character }
 {
     glyph_in(font.file, font.height, font.first, character)
 }
 
 // The glyph of a character in a font's file.
-pub fn glyph_of(file: &[u8], character: u8) -> Glyph
+pub fn glyph_of(file: &[u8], character: u8) -> Option<Glyph>
     ensures { result ≡ glyph_of file.now character }
 {
     lookup(open(file), character)

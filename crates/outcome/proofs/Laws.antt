@@ -21,9 +21,6 @@ pub refuse_is : (p t : Port) (n c : ℕ) → t ≡ in_phase_of p Idle → c ≡ 
 unfolding refused_port
 refuse_is p t n c e f = rw (e, f)
 
-pub refused_is : (p t : Port) (o : Outcome) (n : ℕ) → t ≡ refused_port p n → o ≡ done_of t → o ≡ refused_of p n
-refused_is p t o n e f = f ∙ ap done_of e
-
 -- ---- one memory
 
 came_refused : (m n : Held) (o : Ruled) (k : ℕ) (l : List ℕ) → n ≡ held m.config m.framebuffer m.store m.panel_bytes (refused_port m.port k) → o ≡ refused k l → Came m o n l
@@ -66,11 +63,12 @@ module _ {t : Told} {rule : World → Ruled} {pt : Port} {G S P : Loan} {r : Out
             (ap (λ (l : List ℕ). held (config_by t c) (left G g) (left S s) l pt') (u p)) (e c g s p));
       }
 
-  pub obeys_refused : (n : ℕ) → r ≡ refused_of pt n
+  -- by a refusal whose number is k, whatever type names it
+  pub obeys_refused : (k : ℕ) → ((n : ℕ) × (n ≡ k) × (r ≡ refused_of pt n))
       → ((c : Config) (g s p : List ℕ) → held c (left G g) (left S s) (left P p) pt ≡ held c (found G g) (found S s) (found P p) pt)
-      → ((c : Config) (g s p : List ℕ) → rule (world (found G g) (found S s) (state (config_by t c) pt (panel_of (found P p)))) ≡ refused n []) → Obeys t rule pt G S P r
+      → ((c : Config) (g s p : List ℕ) → rule (world (found G g) (found S s) (state (config_by t c) pt (panel_of (found P p)))) ≡ refused k []) → Obeys t rule pt G S P r
   unfolding sent_by
-  obeys_refused n f u e = by_refused n _ f u e
+  obeys_refused k (n, d, f) u e = by_refused k _ (f ∙ ap (refused_of pt) d) u e
 
   -- with one byte sent
   pub obeys_telling : (n b : ℕ) → r ≡ sending_of (refused_port pt n) (one_byte b)

@@ -1,27 +1,27 @@
 -- The code's outcome: a port and a reply. `sent_by` has the reply as a list of bytes, as the rules say it.
 -- Assumes nothing.
-use Rattle.std.specs.Prelude.{ℕ, ◌+◌, ◌%◌, cond, List, [], ◌∷◌, ◌==◌}
+use Rattle.std.specs.Prelude.{ℕ, ◌+◌, ◌%◌, List, [], ◌∷◌}
 use Rattle.state.specs.declared.Phase.{Phase}
 use Rattle.state.specs.declared.Port.{Port}
 use Rattle.state.specs.State.{with_phase, with_refusals, idle, no_args}
 use Rattle.rules.specs.Step.{refusals}
 use Rattle.outcome.specs.declared.Reply.{Reply}
+use Rattle.outcome.specs.declared.Reply.TheVariants.{Silence, One, Two}
 use Rattle.outcome.specs.declared.Outcome.{Outcome}
 
-abbrev pub reply : ℕ → ℕ → ℕ → Reply
-reply n a b = record { count = n; first = a; second = b }
-
 abbrev pub no_reply : Reply
-no_reply = reply 0 0 0
+no_reply = Silence
 
 abbrev pub one_byte : ℕ → Reply
-one_byte a = reply 1 a 0
+one_byte a = One a
 
 abbrev pub two_bytes : ℕ → ℕ → Reply
-two_bytes a b = reply 2 a b
+two_bytes a b = Two a b
 
 unfoldable pub sent_by : Reply → List ℕ
-sent_by r = cond (r.count == 0) [] (cond (r.count == 1) (r.first ∷ []) (r.first ∷ r.second ∷ []))
+sent_by Silence = []
+sent_by (One a) = a ∷ []
+sent_by (Two a b) = a ∷ b ∷ []
 
 abbrev pub in_phase_of : Port → Phase → Port
 in_phase_of p f = with_phase p f no_args

@@ -1,18 +1,18 @@
 // What comes of a byte: the next port, and the bytes to send. A refusal alters nothing of the port but what it names.
 #![tactic(auto)]
 
-ghost use Rattle.std.specs.Prelude.{◌≡◌};
+ghost use Rattle.std.specs.Prelude.{◌≡◌, ℕ};
 ghost use Rattle.state.specs.State.{with_text};
 ghost use Rattle.outcome.specs.Outcome.{one_byte, two_bytes, in_phase_of, refused_port, done_of, refused_of, sending_of};
 
 use state::{ARGUMENTS, Line, Phase, Port, Refusals, Text};
 
-// At most two bytes; `count` of them are sent, the first one first.
+// The bytes to send, at most two, the first one first.
 #[derive(Clone, Copy)]
-pub struct Reply {
-    pub count: u8,
-    pub first: u8,
-    pub second: u8,
+pub enum Reply {
+    Silence,
+    One(u8),
+    Two(u8, u8),
 }
 
 #[derive(Clone, Copy)]
@@ -24,81 +24,62 @@ pub struct Outcome {
 pub fn one_byte(byte: u8) -> Reply
     ensures { result ≡ one_byte byte }
 {
-    Reply {
-        count: 1,
-        first: byte,
-        second: 0,
-    }
+    Reply::One(byte)
 }
 
 pub fn two_bytes(first: u8, second: u8) -> Reply
     ensures { result ≡ two_bytes first second }
 {
-    Reply {
-        count: 2,
-        first: first,
-        second: second,
-    }
+    Reply::Two(first, second)
 }
 
 // The line in another phase, with no arguments gathered.
 pub fn in_phase(port: Port, phase: Phase) -> Port
     ensures { result ≡ in_phase_of port phase }
 {
-    let line = Line {
-        phase: phase,
-        args: [0; ARGUMENTS],
-    };
-    let mut next = port;
-    next.line = line;
-    next
+    Port {
+        line: Line {
+            phase,
+            args: [0; ARGUMENTS],
+        },
+        ..port
+    }
 }
 
 pub fn put_text(port: Port, text: Text) -> Port
     ensures { result ≡ with_text port text }
 {
-    let mut next = port;
-    next.text = text;
-    next
+    Port { text, ..port }
 }
 
-// What was under way ends, the refusal is counted, from 65535 on to 0, and is the last one.
-pub fn refuse(port: Port, number: u8) -> Port
-    ensures { result ≡ refused_port port number }
+// What was under way ends, the refusal is counted, from 65535 on to 0, and is the last one. Any byte may be its number.
+pub fn refuse<R: Into<u8>>(port: Port, refusal: R) -> Port
+    ensures { (n : ℕ) × R.converts refusal n × (result ≡ refused_port port n) }
 {
     let refusals = Refusals {
-        count: std::num::wrapping_add_u16(port.refusals.count, 1),
-        last: number,
+        count: port.refusals.count.wrapping_add(1),
+        last: refusal.into(),
     };
-    let mut ended = in_phase(port, Phase::Idle);
-    ended.refusals = refusals;
-    ended
+    Port {
+        refusals,
+        ..in_phase(port, Phase::Idle)
+    }
 }
 
 pub fn done(port: Port) -> Outcome
     ensures { result ≡ done_of port }
 {
-    Outcome {
-        port: port,
-        reply: Reply {
-            count: 0,
-            first: 0,
-            second: 0,
-        },
-    }
+    sending(port, Reply::Silence)
 }
 
-pub fn refused(port: Port, number: u8) -> Outcome
-    ensures { result ≡ refused_of port number }
+pub fn refused<R: Into<u8>>(port: Port, refusal: R) -> Outcome
+    ensures { (n : ℕ) × R.converts refusal n × (result ≡ refused_of port n) }
 {
-    done(refuse(port, number))
+    done(refuse(port, refusal))
 }
 
 pub fn sending(port: Port, reply: Reply) -> Outcome
     ensures { result ≡ sending_of port reply }
 {
-    Outcome {
-        port: port,
-        reply: reply,
-    }
+    Outcome { port, reply }
 }

@@ -1,18 +1,15 @@
 -- The rules of these commands, each way by itself.
 -- Assumes nothing.
-use mathlib.Core.Path.{◌≡◌}
+use mathlib.Core.Path.{◌≡◌, ◌∙◌, refl, sym, subst}
 use mathlib.Core.Bool.{Bool, true, false, not}
 use mathlib.Core.List.{List, []}
 use Prim.Native.Nat.{ℕ, ◌+◌, ◌<◌, ◌≤◌}
 use lib.ListN.{take, drop}
 use borrow.Author.Tests.{lt-ltb, le-ltb}
-use Rattle.directory.specs.declared.Found.{Found}
-use Rattle.directory.specs.declared.Found.TheVariants.{At, Nothing}
+use Rattle.std.specs.Prelude.{Option, Some, None, Result, Ok, Err, IsErrAnd, IfErr}
+use Rattle.refusals.specs.declared.Refusal.{Refusal}
+use Rattle.directory.specs.declared.Location.{Location}
 use Rattle.directory.specs.Directory.{max_number, find_of}
-use Rattle.fonts.specs.declared.Check.{Check}
-use Rattle.fonts.specs.declared.Check.TheVariants.{Good, Malformed}
-use Rattle.fonts.specs.Checks.{check_of}
-use Rattle.fonts.proofs.Laws.{good_is, malformed_is}
 use Rattle.fonts.specs.Bitmaps.{bitmap_width, bitmap_height, is_bitmap}
 use Rattle.bitmap.specs.Bitmaps.{packed_box, inline_byte}
 use Rattle.state.specs.declared.Phase.TheVariants.{Idle, Inline}
@@ -22,28 +19,37 @@ use Rattle.rules.specs.World.{World, world, quietly, refused}
 use Rattle.rules.specs.Drawing.{ordered}
 use Rattle.rules.specs.Pictures.{in_phase, bitmap_in, bitmap_at, show_bitmap, begin_inline, inline_data}
 
-module _ (g s : List ℕ) (st : State) (f : List ℕ) (x y : ℕ) (c : Check) (checked : c ≡ check_of (is_bitmap f)) where
-  pub bitmap_23 : c ≡ Malformed → bitmap_in (world g s st) f x y ≡ refused 23 []
+module _ (w : World) (f : List ℕ) (x y : ℕ) where
+  pub bitmap_23 : is_bitmap f ≡ false → bitmap_in w f x y ≡ refused 23 []
   unfolding bitmap_in
-  bitmap_23 e = rw (malformed_is c (is_bitmap f) checked e)
+  bitmap_23 e = rw e
 
-  pub bitmap_done : (g' bits : List ℕ) (v h : ℕ) → c ≡ Good → bits ≡ drop 2 f → v ≡ bitmap_width f → h ≡ bitmap_height f → g' ≡ packed_box x y v h bits g
-      → bitmap_in (world g s st) f x y ≡ quietly (world g' s st)
-  unfolding bitmap_in
-  bitmap_done g' bits v h e d dv dh o = rw (good_is c (is_bitmap f) checked e, o, d, dv, dh)
+pub bitmap_done : (g s : List ℕ) (st : State) (f : List ℕ) (x y : ℕ) (g' bits : List ℕ) (v h : ℕ) → is_bitmap f ≡ true → bits ≡ drop 2 f → v ≡ bitmap_width f → h ≡ bitmap_height f
+    → g' ≡ packed_box x y v h bits g → bitmap_in (world g s st) f x y ≡ quietly (world g' s st)
+unfolding bitmap_in
+bitmap_done g s st f x y g' bits v h e d dv dh o = rw (e, o, d, dv, dh)
 
-pub show_19 : (w : World) (n x y : ℕ) → max_number < n → show_bitmap w n x y ≡ refused 19 []
-unfolding show_bitmap
-show_19 w n x y m = rw (lt-ltb max_number n m)
+-- ---- a saved bitmap
 
-pub show_22 : (w : World) (n x y : ℕ) (f : Found) → n ≤ max_number → f ≡ find_of w.store 2 n → f ≡ Nothing → show_bitmap w n x y ≡ refused 22 []
-unfolding show_bitmap bitmap_at
-show_22 w n x y f m e h = rw (le-ltb max_number n m, ← e, h)
+pub refused_as : {A : Type 0} (r : Result A Refusal) (e d : Refusal) (P : Refusal → Type 0) → IsErrAnd r (λ f. f ≡ e) → e ≡ d → P d → IfErr r P
+refused_as (Ok x) e d P g h p = tt
+refused_as (Err f) e d P g h p = subst P (sym (g ∙ h)) p
 
-pub show_found : (w : World) (n x y p a z : ℕ) (f : Found) (l : List ℕ) → n ≤ max_number → f ≡ find_of w.store 2 n → f ≡ At p a z → l ≡ take z (drop a w.store)
-    → show_bitmap w n x y ≡ bitmap_in w l x y
-unfolding show_bitmap bitmap_at
-show_found w n x y p a z f l m e h d = rw (le-ltb max_number n m, ← e, h, d)
+-- in a world whose store is s
+
+module _ (w : World) (s : List ℕ) (n x y : ℕ) (same : w.store ≡ s) where
+  pub show_19 : max_number < n → show_bitmap w n x y ≡ refused 19 []
+  unfolding show_bitmap
+  show_19 m = rw (lt-ltb max_number n m)
+
+  module _ (f : Option Location) (m : n ≤ max_number) (e : f ≡ find_of s 2 n) where
+    pub show_22 : f ≡ None → show_bitmap w n x y ≡ refused 22 []
+    unfolding show_bitmap bitmap_at
+    show_22 h = rw (le-ltb max_number n m, same, ← e, h)
+
+    pub show_found : (o : Location) (l : List ℕ) → f ≡ Some o → l ≡ take o.size (drop o.start s) → show_bitmap w n x y ≡ bitmap_in w l x y
+    unfolding show_bitmap bitmap_at
+    show_found o l h d = rw (le-ltb max_number n m, same, ← e, h, d)
 
 -- ---- data in line
 

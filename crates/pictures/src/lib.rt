@@ -1,37 +1,38 @@
 // Commands of saved bitmaps and of data in line.
 #![tactic(auto)]
 
+ghost use Rattle.std.specs.Prelude.{◌≡◌, ℕ, [], true, IfOk, IfErr};
+ghost use Rattle.refusals.specs.Refusals.{number_of};
+ghost use Rattle.fonts.specs.Bitmaps.{is_bitmap};
+ghost use Rattle.rules.specs.World.{World, refused};
 ghost use Rattle.rules.specs.Pictures.{bitmap_in, show_bitmap, begin_inline, inline_data};
 ghost use Rattle.outcome.specs.Contract.{unlent, lent, untold, Obeys};
 
 use bitmap::{paint_inline, paint_packed};
-use directory::{BITMAP, Found, MAX_NUMBER, find, part, rest};
+use directory::{BITMAP, MAX_NUMBER, find, part, rest};
 use drawing::is_ordered;
-use fonts::{BITMAP_HEADER, Check, bitmap_height, bitmap_width, check_bitmap};
+use fonts::{BITMAP_HEADER, bitmap_height, bitmap_width, check_bitmap};
 use outcome::{Outcome, done, in_phase, refused};
-use refusals::{CORNERS_OUT_OF_ORDER, MALFORMED_FILE, NO_SUCH_FILE, NUMBER_OUT_OF_RANGE};
+use refusals::Refusal;
 use state::{Phase, Port, inline_bytes};
 
-// A bitmap from its file, its upper left corner at (x, y).
-fn show_file(framebuffer: &mut [u8], port: Port, file: &[u8], x: u8, y: u8) -> Outcome
-    ensures { Obeys untold (λ w. bitmap_in w file.now x y) port (lent framebuffer.old framebuffer.new) unlent unlent result }
+// The file of a bitmap, checked whole.
+fn bitmap_file(store: &[u8], number: u16) -> Result<&[u8], Refusal>
+    ensures found { IfOk result (λ file. (is_bitmap file.now ≡ true) × ((w : World) (x : ℕ) (y : ℕ) → w.store ≡ store.now → show_bitmap w number x y ≡ bitmap_in w file.now x y)) }
+    ensures refused { IfErr result (λ refusal. (w : World) (x : ℕ) (y : ℕ) → w.store ≡ store.now → show_bitmap w number x y ≡ refused (number_of refusal) []) }
 {
-    let check = check_bitmap(file);
-    let Check::Good = check else {
-        return refused(port, MALFORMED_FILE);
+    if number > MAX_NUMBER {
+        return Err(Refusal::NumberOutOfRange);
+    }
+    let Some(found) = find(store, BITMAP, number) else {
+        return Err(Refusal::NoSuchFile);
     };
-    let bits = rest(file, BITMAP_HEADER);
-    paint_packed(
-        framebuffer,
-        x as u16,
-        y,
-        bitmap_width(file),
-        bitmap_height(file),
-        bits,
-    );
-    done(port)
+    let file = part(store, found.start, found.size);
+    check_bitmap(file)?;
+    Ok(file)
 }
 
+// A saved bitmap, its upper left corner at (x, y).
 pub fn show_bitmap(
     framebuffer: &mut [u8],
     store: &[u8],
@@ -42,35 +43,35 @@ pub fn show_bitmap(
 ) -> Outcome
     ensures { Obeys untold (λ w. show_bitmap w number x y) port (lent framebuffer.old framebuffer.new) (lent store.now store.now) unlent result }
 {
-    if number > MAX_NUMBER {
-        return refused(port, NUMBER_OUT_OF_RANGE);
-    }
-    let found = find(store, BITMAP, number);
-    let Found::At {
-        record: _,
-        start,
-        size,
-    } = found
-    else {
-        return refused(port, NO_SUCH_FILE);
+    let file = match bitmap_file(store, number) {
+        Ok(file) => file,
+        Err(refusal) => return refused(port, refusal),
     };
-    let file = part(store, start, size);
-    show_file(framebuffer, port, file, x, y)
+    let bits = rest(file, BITMAP_HEADER);
+    paint_packed(
+        framebuffer,
+        u16::from(x),
+        y,
+        bitmap_width(file),
+        bitmap_height(file),
+        bits,
+    );
+    done(port)
 }
 
 pub fn begin_inline(port: Port, x1: u8, y1: u8, x2: u8, y2: u8) -> Outcome
     ensures { Obeys untold (λ w. begin_inline w x1 y1 x2 y2) port unlent unlent unlent result }
 {
     if !is_ordered(x1, y1, x2, y2) {
-        return refused(port, CORNERS_OUT_OF_ORDER);
+        return refused(port, Refusal::CornersOutOfOrder);
     }
     done(in_phase(
         port,
         Phase::Inline {
-            x1: x1,
-            y1: y1,
-            x2: x2,
-            y2: y2,
+            x1,
+            y1,
+            x2,
+            y2,
             done: 0,
         },
     ))
@@ -91,14 +92,14 @@ pub fn inline_data(
 {
     paint_inline(framebuffer, x1, y1, x2, y2, came, byte);
     let all = inline_bytes(x1, y1, x2, y2);
-    if came as u32 + 1 < all as u32 {
+    if u32::from(came) + 1 < u32::from(all) {
         return done(in_phase(
             port,
             Phase::Inline {
-                x1: x1,
-                y1: y1,
-                x2: x2,
-                y2: y2,
+                x1,
+                y1,
+                x2,
+                y2,
                 done: came + 1,
             },
         ));

@@ -68,11 +68,12 @@ module _ (r : List ℕ) (b : Bytes r) (e : Passed r) where
       ∙ ap (λ (l : List ℕ). set l 82 (bit m)) (set_held _ long (at r 81 + 1))
       ∙ set_mark _ long m))
 
-  pub counted_in : (low high n : ℕ) → low ≡ at r 83 → high ≡ at r 84 → n ≡ (low + 256 * high + 1) % 65536
-      → set (set r 83 (n % 256)) 84 (n / 256) ≡ encode_of (counted (decode_of r))
+  pub counted_in : (n low high : ℕ) → n ≡ (at r 83 + 256 * at r 84 + 1) % 65536 → low ≡ n % 256 → high ≡ n / 256
+      → set (set r 83 low) 84 high ≡ encode_of (counted (decode_of r))
   unfolding decode_of counted
-  counted_in low high n el eh en =
-      from_record r (λ (l : List ℕ). set (set l 83 (n % 256)) 84 (n / 256)) b e (set_lost _ size n ∙ rw (en, el, eh))
+  counted_in n low high en el eh =
+      rw (el, eh)
+      (from_record r (λ (l : List ℕ). set (set l 83 (n % 256)) 84 (n / 256)) b e (set_lost _ size n ∙ rw en))
 
   pub advanced_in : (p k : ℕ) (m : Bool) → p ≡ at r 80 → k ≡ bit m
       → set (set (set r 80 ((p + 1) % 80)) 81 (at r 81 - 1)) 82 k ≡ encode_of (advanced (decode_of r) m)

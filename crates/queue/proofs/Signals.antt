@@ -2,8 +2,7 @@
 -- Assumes nothing.
 use Rattle.std.proofs.Common.{◌≡◌, ℕ, zero, suc, ◌+◌, ◌-◌, ◌≤◌, Bool, true, false, cond, not, ◌&&◌, eqb, leb, List, [], ◌∷◌, take, sym, refl, ap, ◌∙◌, arith}
 use mathlib.Core.Bool.{false≢true}
-use Rattle.queue.specs.declared.Watermark.{Watermark}
-use Rattle.queue.specs.Watermarks.{watermark, high_water, low_water, while_on}
+use Rattle.queue.specs.Watermarks.{Watermark, watermark, high_water, low_water, while_on}
 use Rattle.queue.specs.Queue.{Queue, stored, counted, advanced}
 use Rattle.queue.specs.Record.{bit}
 use Rattle.queue.specs.History.{Op, arrives, takes, after, signal, after_all, signals, count, latest}

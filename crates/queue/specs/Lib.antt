@@ -1,3 +1,4 @@
+pub mod Numbers
 pub mod Watermarks
 pub mod Queue
 pub mod Record

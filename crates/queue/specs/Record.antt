@@ -1,8 +1,12 @@
 -- The record of a queue, 85 bytes: which byte stands where, reading and writing it, which records are accepted, and what an arrival
 -- and a take make of one.
 -- Assumes nothing.
-use Rattle.std.specs.Prelude.{◌≡◌, ℕ, zero, suc, ◌+◌, ◌*◌, ◌/◌, ◌%◌, ◌<◌, ◌≤◌, Bool, cond, ◌&&◌, List, [], ◌∷◌, ◌++◌, length, ◌==◌, nat_le, nat_lt, slice_index}
+use Rattle.std.specs.Prelude.{◌≡◌, ℕ, zero, suc, ◌+◌, ◌*◌, ◌/◌, ◌%◌, ◌<◌, ◌≤◌, Bool, cond, ◌&&◌, List, [], ◌∷◌, ◌++◌, length, ◌==◌, nat_le, nat_lt, slice_index, Option, Result, Ok, Err}
 use Rattle.queue.specs.declared.Flow.{Flow}
+use Rattle.queue.specs.declared.Signal.{Signal}
+use Rattle.queue.specs.declared.QueueError.{QueueError}
+use Rattle.queue.specs.declared.TakenByte.{TakenByte}
+use Rattle.queue.specs.Numbers.{signal_number, error_number}
 use Rattle.queue.specs.Queue.{Queue, Arrival, Taken, queue, arrive_of, take_of}
 
 -- a byte of a record; behind its end there are only zeros
@@ -74,6 +78,15 @@ pub record Served : Type 0 where
 
 abbrev pub served : ℕ → ℕ → ℕ → List ℕ → Served
 served a b s q = record { answer = a; byte = b; signal = s; queue = q }
+
+-- what an arrival at a record answers, and a take from it
+abbrev pub arrived_as : Result (Option Signal) QueueError → List ℕ → Served
+arrived_as (Ok signal) q = served 0 0 (signal_number signal) q
+arrived_as (Err error) q = served (error_number error) 0 0 q
+
+abbrev pub taken_as : Result TakenByte QueueError → List ℕ → Served
+taken_as (Ok taken) q = served 0 taken.byte (signal_number taken.signal) q
+taken_as (Err error) q = served (error_number error) 0 0 q
 
 abbrev pub arrived : Arrival → Served
 arrived a = served a.answer 0 a.signal (encode_of a.queue)

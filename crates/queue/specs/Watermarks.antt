@@ -2,10 +2,19 @@
 -- Assumes nothing.
 use Rattle.std.specs.Prelude.{ℕ, ◌-◌, Bool, true, false, cond, not, ◌&&◌, nat_le}
 use Rattle.queue.specs.declared.Flow.{Flow}
-use Rattle.queue.specs.declared.Watermark.{Watermark}
+use Rattle.queue.specs.declared.Crossing.{Crossing}
+use Rattle.queue.specs.Numbers.{signal_number}
+
+-- the signal that a change sends, 0 for none, and the mark after it
+pub record Watermark : Type 0 where
+  pub signal : ℕ
+  pub mark : Bool
 
 abbrev pub watermark : ℕ → Bool → Watermark
 watermark signal mark = record { signal = signal; mark = mark }
+
+abbrev pub crossing : Crossing → Watermark
+crossing c = watermark (signal_number c.signal) c.mark
 
 -- an accepted byte: with the mark down and at most `full` bytes free, 254 goes out and the mark goes up
 unfoldable pub high_water : ℕ → Bool → ℕ → Watermark

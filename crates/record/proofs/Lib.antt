@@ -8,3 +8,4 @@ pub mod Back
 pub mod Bytes
 pub mod Round
 pub mod Written
+pub mod Copies

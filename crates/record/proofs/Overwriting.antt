@@ -2,13 +2,14 @@
 -- Assumes nothing.
 use mathlib.Core.Path.{◌≡◌, refl, sym, ap, ◌∙◌}
 use mathlib.Core.List.{List, [], ◌∷◌, ◌++◌, append_assoc, append-nil}
-use Prim.Native.Nat.{ℕ, suc, ◌+◌, ◌-◌, ◌*◌, ◌≤◌}
+use Prim.Native.Nat.{ℕ, suc, ◌+◌, ◌-◌, ◌*◌, ◌≤◌, min}
 use native.Mathlib.Omega.{arith}
 use native.Mathlib.Nat.{mul-zero, mul-suc}
 use native.Mathlib.Numerals.{add-one}
 use native.Mathlib.Decide.{dec_lt}
 use lib.ListN.{length, drop, take, set, length-set, length-append, take-append-drop, drop_of_length-le}
-use lib.Seq.{set_out, take-suc-set, drop-set-lt, take_all, take-nil}
+use lib.Seq.{set_out, take-suc-set, drop-set-lt, take_all, take-nil, drop-drop}
+use borrow.Rule.Slice.PartMut.{put_mid}
 use Rattle.record.specs.Writing.{over, many_bytes}
 
 pub length_over : (l : List ℕ) (k : ℕ) (g : List ℕ) → length (over l k g) ≡ length g
@@ -40,7 +41,7 @@ take_zero n l e = rw e
 take_more : {A : Type 0} (n m : ℕ) (a : A) (l : List A) → n ≡ suc m → take n (a ∷ l) ≡ a ∷ take m l
 take_more n m a l e = rw e
 
-over_is : (l : List ℕ) (k : ℕ) (g : List ℕ) → k ≤ length g → over l k g ≡ take k g ++ (take (length g - k) l ++ drop (k + length l) g)
+pub over_is : (l : List ℕ) (k : ℕ) (g : List ℕ) → k ≤ length g → over l k g ≡ take k g ++ (take (length g - k) l ++ drop (k + length l) g)
 unfolding over
 over_is [] k g h = let z : k + 0 ≡ k = omega arith in rw (take-nil (length g - k), z) (sym (take-append-drop k g))
 over_is (b ∷ l) k g h =
@@ -72,6 +73,35 @@ over_front l g =
 -- of one length: nothing of g is left
 pub over_all : (l g : List ℕ) → length l ≡ length g → over l 0 g ≡ l
 over_all l g e = over_front l g ∙ rw (take_all (length g) l (omega arith), drop_of_length-le g {i = length l} (omega arith)) (append-nil l)
+
+-- ---- as many of l as there is room for
+
+take_part : (l : List ℕ) (m n : ℕ) → n ≡ min (length l) m → take n l ≡ take m l
+take_part l m n e =
+    elim (dec_lt m (length l)) [
+      | yes s ↦ (let i : n ≡ m = omega arith in rw i)
+      | no s ↦ take_all n l (omega arith) ∙ sym (take_all m l (omega arith))
+    ]
+
+drop_part : (l g : List ℕ) (k n : ℕ) → n ≡ min (length l) (length g - k) → drop (k + n) g ≡ drop (k + length l) g
+drop_part l g k n e =
+    elim (dec_lt (length g - k) (length l)) [
+      | yes s ↦ drop_of_length-le g {i = k + n} (omega arith) ∙ sym (drop_of_length-le g {i = k + length l} (omega arith))
+      | no s ↦ (let i : n ≡ length l = omega arith in rw i)
+    ]
+
+-- h, the first of l, as many as there is room for from k on
+pub over_part : (l g h : List ℕ) (k f n e : ℕ) → f ≡ min k (length g) → n ≡ min (length l) (length g - f) → e ≡ f + n → h ≡ take n l → put_mid f (e - f) g h ≡ over l k g
+over_part l g h k f n e ef en ee eh =
+    let d : e - f ≡ n = omega arith in
+    elim (dec_lt (length g) k) [
+      | yes s ↦ (let a : f ≡ length g = omega arith in
+          let b : n ≡ 0 = omega arith in
+          rw (eh, d, b, a, take_all (length g) g (omega arith), drop_of_length-le g {i = length g} (omega arith)) (append-nil g ∙ sym (over_out l k g (omega arith))))
+      | no s ↦ (let a : f ≡ k = omega arith in
+          let m : n ≡ min (length l) (length g - k) = omega arith in
+          rw (eh, d, a, drop-drop n k g, take_part l (length g - k) n m, drop_part l g k n m) (sym (over_is l k g (omega arith))))
+    ]
 
 -- ---- thing by thing, each of `size` bytes
 

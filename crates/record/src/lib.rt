@@ -1,15 +1,18 @@
-// The record of 209 bytes in which a caller keeps the state: its layout, and what is read from it.
+// The record of 209 bytes in which a caller keeps the state: its layout, what is read from it, and bytes written over it.
 #![tactic(auto)]
 
 mod reading;
+mod writing;
 
 ghost use Rattle.std.specs.Prelude.{◌≡◌};
 ghost use Rattle.record.specs.Reading.{height_in, config_in, used_in, decode_of};
 
+use lent_bytes::byte_at;
 use queue::Flow;
-use reading::{byte_at, flow_of};
-pub use reading::{decode_port, pair, word};
+use reading::flow_of;
+pub use reading::{decode_port, part_at};
 use state::Config;
+pub use writing::{copy_bytes, put};
 
 // Where the parts stand. The phase: 0 idle, 1 prefix, 2 gathering, 3 in line, 4 upload.
 pub const PHASE: usize = 0;
@@ -91,12 +94,13 @@ pub fn config_in(r: &[u8]) -> Config
     ensures { result ≡ config_in r.now }
 {
     Config {
-        height: byte_at(r, HEIGHT),
+        height: height_in(r),
         edition: byte_at(r, EDITION),
     }
 }
 
 // Its flow control.
+#[tactic(auto, unfolding(crate::specs::Reading::decode_of, crate::specs::Reading::port_of))]
 pub fn flow_in(r: &[u8]) -> Flow
     ensures { result ≡ (decode_of r.now).port.flow }
 {
@@ -107,5 +111,5 @@ pub fn flow_in(r: &[u8]) -> Flow
 pub fn used_in(r: &[u8]) -> u16
     ensures { result ≡ used_in r.now }
 {
-    pair(byte_at(r, USED), byte_at(r, USED + 1))
+    u16::from_le_bytes([byte_at(r, USED), byte_at(r, USED + 1)])
 }

@@ -1,22 +1,21 @@
 -- A record is accepted exactly when each of its parts is.
 -- Assumes nothing.
 use mathlib.Core.Path.{◌≡◌, refl, sym, ap, ◌∙◌}
-use mathlib.Core.Bool.{Bool, true, false, not, ◌&&◌, ◌||◌, and_assoc, and-true, and-false}
+use mathlib.Core.Bool.{Bool, true, false, ◌&&◌, ◌||◌, and_assoc, and-true, and-false}
 use mathlib.Core.List.{List, ◌∷◌, ◌++◌}
 use Prim.Native.Nat.{ℕ, zero, suc, ◌+◌}
 use native.Mathlib.Omega.{arith}
 use lib.Dec.{eqb, ltb}
 use lib.ListN.{length, drop, replicate}
 use lib.Seq.{drop-drop, get_or-drop}
-use borrow.Author.Tests.{eq-eqb, ne_eqb, eqb-true, not-true, not-false}
+use borrow.Author.Tests.{eq-eqb, eqb-true}
 use Rattle.canvas.specs.Sizes.{is_height}
 use Rattle.queue.specs.Record.{at, bit, Bytes, bytes_from}
-use Rattle.state.specs.declared.Config.{Config}
 use Rattle.state.specs.Editions.{is_edition}
 use Rattle.state.specs.Soundness.{every, sound_phase, sound_text, sound_port, thresholds_fit, sound_bar, sound_strip, sound_panel, sound_config, sound_state}
 use Rattle.state.specs.Canonical.{canonical_phase, canonical_arguments, canonical_port, canonical_bar, canonical_strip, canonical_serial, canonical_panel, canonical_state}
-use Rattle.record.specs.Layout.{port_size, height_at, panel_at, panel_strips, panel_serial, panel_backlight, strips_at, serial_at, backlight_at, record_size}
-use Rattle.record.specs.Reading.{many_of, flag_at, phase_of, arguments_in, text_of, flow_of, port_of, slot_of, strip_of, panel_of, height_in, edition_in, config_in, decode_of}
+use Rattle.record.specs.Layout.{bars_at, port_size, height_at, panel_at, panel_strips, panel_serial, panel_backlight, strips_at, serial_at, backlight_at, record_size}
+use Rattle.record.specs.Reading.{many_of, flag_at, phase_of, arguments_in, text_of, flow_of, port_of, slot_of, strip_of, panel_of, height_in, edition_in, decode_of}
 use Rattle.record.specs.Writing.{many_bytes, gathering_bytes, data_bytes, upload_bytes, text_bytes, other_bytes, phase_bytes, port_bytes, slot_bytes, strip_bytes, last_bytes, panel_bytes, encode_of}
 use Rattle.record_check.specs.Parts.{stands, clear, every_of, phase_stands, phase_holds, text_holds, other_holds, port_holds, slot_holds, strip_holds, panel_holds}
 use Rattle.record.specs.Record.{same_bytes, recognised, sound_record}
@@ -76,7 +75,7 @@ module _ (r : List ℕ) where
       stands_next (phase_bytes (port_of r)) _ 0 26 r (length-phase (port_of r) refl)
       ∙ ap (λ (t : Bool). stands (phase_bytes (port_of r)) 0 r && t) (stands_next (text_bytes (text_of (drop 26 r))) (other_bytes (port_of r)) 26 12 r refl)
 
-  port_is : port_holds r ≡ (phase_holds r && (text_holds r && other_holds r))
+  pub port_is : port_holds r ≡ (phase_holds r && (text_holds r && other_holds r))
   unfolding port_holds phase_stands text_holds other_holds sound_port canonical_port port_of
   port_is =
       let p = phase_of r in
@@ -85,15 +84,6 @@ module _ (r : List ℕ) where
       (port_written ∙ ap (λ (x : Bool). x && (stands (text_bytes t) 26 r && stands (other_bytes (port_of r)) 38 r)) phase_written)
       ∙ port_parts (sound_phase (edition_in r) p) (sound_text t) (thresholds_fit (flow_of (drop 41 r))) (canonical_phase p) (canonical_arguments p (arguments_in (drop 3 r))) (stands (gathering_bytes p) 0 r)
       (stands (data_bytes p) 9 r && stands (upload_bytes p) 15 r) (stands (text_bytes t) 26 r) (stands (other_bytes (port_of r)) 38 r)
-
-  pub port_text_not : (t : Bool) → t ≡ text_holds r → not t ≡ true → false ≡ port_holds r
-  port_text_not t et n = sym (port_is ∙ rw (sym et ∙ not-true t n) (and-false (phase_holds r)))
-
-  pub port_others_not : (o : Bool) → o ≡ other_holds r → not o ≡ true → false ≡ port_holds r
-  port_others_not o eo n = sym (port_is ∙ rw (sym eo ∙ not-true o n, and-false (text_holds r)) (and-false (phase_holds r)))
-
-  pub port_holds_lem : (t o p : Bool) → t ≡ text_holds r → not t ≡ false → o ≡ other_holds r → not o ≡ false → p ≡ phase_holds r → p ≡ port_holds r
-  port_holds_lem t o p et ht eo ho ep = ep ∙ sym (port_is ∙ rw (sym et ∙ not-false t ht, sym eo ∙ not-false o ho) (and-true (phase_holds r)))
 
 -- ---- the panel
 
@@ -165,27 +155,19 @@ module _ (h : ℕ) (l : List ℕ) (b : Bytes l) where
       (stands (many_bytes slot_bytes q.bars) 0 l) (stands (many_bytes strip_bytes q.strips) 0 (drop 112 l)) (stands (last_bytes q) 152 l)
       ∙ rw (bars_are, strips_are, last_is)
 
+-- the same in the places of the record
+pub panel_in : (h : ℕ) (r : List ℕ) → Bytes r → panel_holds h (drop panel_at r)
+    ≡ (every_of (slot_holds h) 7 (drop bars_at r) 16 && every_of (strip_holds h) 5 (drop strips_at r) 8 && ((eqb (at r serial_at) 1 || clear serial_at 3 r) && ltb (at r backlight_at) 2))
+panel_in h r b =
+    panel_is h (drop panel_at r) (bytes_drop panel_at r b)
+    ∙ rw (drop-drop panel_strips panel_at r, get_or-drop panel_at r panel_serial 0, get_or-drop panel_at r panel_backlight 0, stands_drop (replicate 3 0) panel_at panel_serial r)
+
 module _ (h : ℕ) (r : List ℕ) (b : Bytes r) where
-  abbrev graphs : Bool
-  graphs = every_of (slot_holds h) 7 (drop panel_at r) 16 && every_of (strip_holds h) 5 (drop strips_at r) 8
+  pub backlight_refused : ltb (at r backlight_at) 2 ≡ false → panel_holds h (drop panel_at r) ≡ false
+  backlight_refused e = panel_in h r b ∙ rw (e, and-false (eqb (at r serial_at) 1 || clear serial_at 3 r)) (and-false (every_of (slot_holds h) 7 (drop bars_at r) 16 && every_of (strip_holds h) 5 (drop strips_at r) 8))
 
-  abbrev serial : Bool
-  serial = eqb (at r serial_at) 1 || clear serial_at 3 r
-
-  -- the same in the places of the record
-  panel_in : panel_holds h (drop panel_at r) ≡ (graphs && (serial && ltb (at r backlight_at) 2))
-  panel_in =
-      panel_is h (drop panel_at r) (bytes_drop panel_at r b)
-      ∙ rw (drop-drop panel_strips panel_at r, get_or-drop panel_at r panel_serial 0, get_or-drop panel_at r panel_backlight 0, stands_drop (replicate 3 0) panel_at panel_serial r)
-
-  pub panel_backlight_not : (f : Bool) → f ≡ ltb (at r backlight_at) 2 → not f ≡ true → false ≡ panel_holds h (drop panel_at r)
-  panel_backlight_not f ef n = sym (panel_in ∙ rw (sym ef ∙ not-true f n, and-false serial) (and-false graphs))
-
-  pub panel_serial_not : (s : Bool) → s ≡ serial → not s ≡ true → false ≡ panel_holds h (drop panel_at r)
-  panel_serial_not s es n = sym (panel_in ∙ rw (sym es ∙ not-true s n) (and-false graphs))
-
-  pub panel_holds_lem : (f s g : Bool) → f ≡ ltb (at r backlight_at) 2 → not f ≡ false → s ≡ serial → not s ≡ false → g ≡ graphs → g ≡ panel_holds h (drop panel_at r)
-  panel_holds_lem f s g ef hf es hs eg = eg ∙ sym (panel_in ∙ rw (sym ef ∙ not-false f hf, sym es ∙ not-false s hs) (and-true graphs))
+  pub serial_refused : (eqb (at r serial_at) 1 || clear serial_at 3 r) ≡ false → panel_holds h (drop panel_at r) ≡ false
+  serial_refused e = panel_in h r b ∙ rw e (and-false (every_of (slot_holds h) 7 (drop bars_at r) 16 && every_of (strip_holds h) 5 (drop strips_at r) 8))
 
 -- ---- all of it
 
@@ -205,21 +187,13 @@ not_known true k j p q c d s e = rw e
 not_known false k j p q c d s e = refl
 
 module _ (r : List ℕ) where
-  pub recognised_not : (length r ≡ record_size → ⊥) → false ≡ recognised r
+  pub recognised_long : recognised r ≡ true → length r ≡ record_size
   unfolding recognised
-  recognised_not n = rw (ne_eqb (length r) record_size n)
+  recognised_long e = eqb-true (length r) record_size (both (eqb (length r) record_size) (is_height (height_in r)) e).0
 
-  pub recognised_is : (h : ℕ) (t : Bool) → length r ≡ record_size → h ≡ height_in r → t ≡ is_height h → t ≡ recognised r
-  unfolding recognised
-  recognised_is h t n eh et = et ∙ rw (eq-eqb (length r) record_size n, eh)
-
-  pub recognised_long : (k : Bool) → k ≡ recognised r → not k ≡ false → length r ≡ record_size
-  unfolding recognised
-  recognised_long k e f = eqb-true (length r) record_size (both (eqb (length r) record_size) (is_height (height_in r)) (sym e ∙ not-false k f)).0
-
-  pub not_recognised : (t : Bool) → t ≡ recognised r → not t ≡ true → false ≡ sound_record r
+  pub not_recognised : recognised r ≡ false → sound_record r ≡ false
   unfolding sound_record sound_state sound_config recognised decode_of
-  not_recognised t e f = not_known (eqb (length r) record_size) (is_height (height_in r)) _ _ _ _ _ _ (sym e ∙ not-true t f)
+  not_recognised e = sym (not_known (eqb (length r) record_size) (is_height (height_in r)) _ _ _ _ _ _ e)
 
   -- height and edition stand where they were read
   config_stands : (l : List ℕ) → stands (height_in r ∷ edition_in r ∷ l) height_at r ≡ stands l panel_at r
@@ -236,31 +210,17 @@ module _ (r : List ℕ) where
       ∙ ap (λ (t : Bool). stands (port_bytes (port_of r)) 0 r && t) (config_stands b ∙ sym (stands_front b panel_at r))
 
   -- what is left to ask where the record is recognised: its edition, its port and its panel
-  record_is : (k : Bool) → k ≡ recognised r → not k ≡ false → sound_record r ≡ (is_edition (edition_in r) && (port_holds r && panel_holds (height_in r) (drop panel_at r)))
+  pub record_is : recognised r ≡ true → sound_record r ≡ (is_edition (edition_in r) && (port_holds r && panel_holds (height_in r) (drop panel_at r)))
   unfolding sound_record recognised decode_of sound_state sound_config canonical_state port_holds panel_holds
-  record_is k ek hk =
+  record_is e =
       let a = port_of r in
       let b = panel_of (drop panel_at r) in
       let m = drop panel_at r in
       let j = is_edition (edition_in r) in
       let p = sound_port (edition_in r) a in
       let q = sound_panel (height_in r) b in
-      let known = both (eqb (length r) record_size) (is_height (height_in r)) (sym ek ∙ not-false k hk) in
+      let known = both (eqb (length r) record_size) (is_height (height_in r)) e in
       rw (known.0, known.1)
       (ap (λ (x : Bool). (j && p && q) && thresholds_fit a.flow && canonical_state (decode_of r) && x) (written_again (eqb-true (length r) record_size known.0))
       ∙ edition_first j p q (thresholds_fit a.flow) (canonical_state (decode_of r)) (stands (port_bytes a) 0 r && stands (panel_bytes b) 0 m)
       ∙ ap (λ (x : Bool). j && x) (record_parts p q (thresholds_fit a.flow) (canonical_port a) (canonical_panel b) (stands (port_bytes a) 0 r) (stands (panel_bytes b) 0 m)))
-
-  -- c what the board chose, as it was read
-  module _ (k : Bool) (c : Config) (j : Bool) (ek : k ≡ recognised r) (hk : not k ≡ false) (ec : c ≡ config_in r) (ej : j ≡ is_edition c.edition) where
-    edition_is : is_edition (edition_in r) ≡ j
-    edition_is = sym (ej ∙ ap (λ (x : Config). is_edition x.edition) ec)
-
-    pub record_edition_not : not j ≡ true → false ≡ sound_record r
-    record_edition_not n = sym (record_is k ek hk ∙ rw (edition_is ∙ not-true j n))
-
-    pub record_port_not : (p : Bool) → not j ≡ false → p ≡ port_holds r → not p ≡ true → false ≡ sound_record r
-    record_port_not p hj ep n = sym (record_is k ek hk ∙ rw (edition_is ∙ not-false j hj, sym ep ∙ not-true p n))
-
-    pub record_holds : (p q : Bool) → not j ≡ false → p ≡ port_holds r → not p ≡ false → q ≡ panel_holds c.height (drop panel_at r) → q ≡ sound_record r
-    record_holds p q hj ep hp eq = eq ∙ rw ec (sym (record_is k ek hk ∙ rw (edition_is ∙ not-false j hj, sym ep ∙ not-false p hp)))

@@ -15,7 +15,7 @@ use Rattle.queue.specs.Record.{at, bytes_from}
 use Rattle.state.specs.Soundness.{every, sound_corners, sound_set_up, sound_bar, sound_strip}
 use Rattle.state.specs.Canonical.{canonical_bar, canonical_strip}
 use Rattle.state.specs.State.{bar_of}
-use Rattle.record.specs.Layout.{bars_at, strips_at, serial_at}
+use Rattle.record.specs.Layout.{bars_at, strips_at}
 use Rattle.record.specs.Reading.{flag_at, slot_of, strip_of}
 use Rattle.record_check.specs.Parts.{stands, clear, every_of, slot_holds, strip_holds}
 use Rattle.record.proofs.Same.{both}
@@ -82,16 +82,10 @@ module _ (h : ℕ) (r : List ℕ) (k : ℕ) where
       let n : k + 5 - k ≡ 5 = omega arith in
       e ∙ rw (strip_is h (drop k r), not_set_up_lem o, n) (sym (stands_front (replicate 5 0) k r))
 
-pub serial_there : (r : List ℕ) → at r serial_at ≡ 1 → true ≡ (eqb (at r serial_at) 1 || clear serial_at 3 r)
-serial_there r e = rw e
-
-pub serial_clear : (r : List ℕ) (t : Bool) → (at r serial_at ≡ 1 → ⊥) → t ≡ clear serial_at 3 r → t ≡ (eqb (at r serial_at) 1 || clear serial_at 3 r)
-serial_clear r t o e = e ∙ rw (ne_eqb (at r serial_at) 1 o)
-
 -- nothing set up
-pub graphs_clear : (h : ℕ) (r : List ℕ) (t : Bool) → t ≡ clear bars_at 152 r → t ≡ true → true ≡ (every_of (slot_holds h) 7 (drop bars_at r) 16 && every_of (strip_holds h) 5 (drop strips_at r) 8)
-graphs_clear h r t c e =
-    let p = both (clear bars_at 112 r) (clear strips_at 40 r) (sym (c ∙ clear_add 112 40 bars_at r) ∙ e) in
-    sym (and_yes (every_of (slot_holds h) 7 (drop bars_at r) 16) (every_of (strip_holds h) 5 (drop strips_at r) 8)
+pub graphs_clear : (h : ℕ) (r : List ℕ) → clear bars_at 152 r ≡ true → (every_of (slot_holds h) 7 (drop bars_at r) 16 && every_of (strip_holds h) 5 (drop strips_at r) 8) ≡ true
+graphs_clear h r e =
+    let p = both (clear bars_at 112 r) (clear strips_at 40 r) (sym (clear_add 112 40 bars_at r) ∙ e) in
+    and_yes (every_of (slot_holds h) 7 (drop bars_at r) 16) (every_of (strip_holds h) 5 (drop strips_at r) 8)
     (every_clear (slot_holds h) 7 (blank_slot h) 16 (drop bars_at r) (stands_front (replicate 112 0) bars_at r ∙ p.0))
-    (every_clear (strip_holds h) 5 (blank_strip h) 8 (drop strips_at r) (stands_front (replicate 40 0) strips_at r ∙ p.1)))
+    (every_clear (strip_holds h) 5 (blank_strip h) 8 (drop strips_at r) (stands_front (replicate 40 0) strips_at r ∙ p.1))

@@ -1,7 +1,7 @@
 -- Bytes that stand at a place of a record, bytes that are 0, and the loops that test them.
 -- Assumes nothing.
 use mathlib.Core.Path.{◌≡◌, refl, sym, ap, ◌∙◌}
-use mathlib.Core.Bool.{Bool, true, false, not, ◌&&◌, and_assoc, and-true}
+use mathlib.Core.Bool.{Bool, true, ◌&&◌, and_assoc, and-true}
 use mathlib.Core.List.{List, [], ◌∷◌, ◌++◌}
 use Prim.Native.Nat.{ℕ, zero, suc, ◌+◌, ◌-◌, ◌*◌, ◌<◌, ◌≤◌}
 use native.Mathlib.Omega.{arith}
@@ -11,12 +11,13 @@ use lib.Dec.{eqb}
 use lib.ListN.{length, drop, replicate, drop_of_length-le}
 use lib.Seq.{drop-cons, drop-drop, get_or-drop}
 use native.Mathlib.Numerals.{add-one}
-use borrow.Author.Tests.{eq-eqb, ne_eqb, not-true, not-false}
+use borrow.Author.Tests.{eq-eqb, ne_eqb}
 use Rattle.pixels.proofs.Tests.{and_yes}
 use Rattle.queue.specs.Record.{at, bytes_from}
 use Rattle.state.specs.Soundness.{every}
 use Rattle.state.specs.Canonical.{is_zero}
 use Rattle.record.specs.Record.{same_bytes}
+use Rattle.std.specs.List.{list_all, range_with_len}
 use Rattle.record_check.specs.Parts.{stands, clear, every_of}
 use Rattle.record.proofs.Same.{both}
 
@@ -103,9 +104,6 @@ zeros_from_lem r g k n = ap (every is_zero) (drop_bytes r g k n) ∙ zeros_clear
 pub record Cleared (r : List ℕ) (start end k : ℕ) (b : Bool) : Type 0 where
   pub rest : (b && clear k (end - k) r) ≡ clear start (end - start) r
 
-pub cleared_start : (r : List ℕ) (start end : ℕ) → Cleared r start end start true
-cleared_start r start end = record { rest = refl }
-
 module _ {r : List ℕ} {start end k : ℕ} {b : Bool} (p : Cleared r start end k b) where
   pub cleared_more : {c : Bool} → k < end → c ≡ (b && eqb (at r k) 0) → Cleared r start end (k + 1) c
   unfolding stands
@@ -130,31 +128,14 @@ every_clear one size f (suc n) l e =
     and_yes (one l) (every_of one size (drop size l) n) (f l h.0)
     (every_clear one size f n (drop size l) (stands_drop (replicate (size * n) 0) size 0 l ∙ ap (λ (j : ℕ). clear j (size * n) l) z ∙ h.1))
 
--- those in front of number i are passed, and t is the answer
-pub record Tested (one : List ℕ → Bool) (size k : ℕ) (r : List ℕ) (n : ℕ) (t : Bool) (i : ℕ) : Type 0 where
-  pub rest : every_of one size (drop (k + size * i) r) (n - i) ≡ t
-
-pub tested_start : (one : List ℕ → Bool) (size k : ℕ) (r : List ℕ) (n : ℕ) → Tested one size k r n (every_of one size (drop k r) n) 0
-tested_start one size k r n =
-    let z : k + size * 0 ≡ k = omega (arith, mul-zero size) in
-    let f : n - 0 ≡ n = omega arith in
-    record { rest = rw (z, f) }
-
-module _ {one : List ℕ → Bool} {size k : ℕ} {r : List ℕ} {n : ℕ} {t : Bool} {i : ℕ} (p : Tested one size k r n t i) where
-  first : i < n → (one (drop (k + size * i) r) && every_of one size (drop size (drop (k + size * i) r)) (n - (i + 1))) ≡ t
+-- by their numbers
+module _ (one : List ℕ → Bool) (size k : ℕ) (r : List ℕ) where
+  every_from : (n i : ℕ) → list_all (λ j. one (drop (k + size * j) r)) (range_with_len i n) ≡ every_of one size (drop (k + size * i) r) n
   unfolding every_of
-  first h = let f : suc (n - (i + 1)) ≡ n - i = omega arith in ap (every_of one size (drop (k + size * i) r)) f ∙ p.rest
+  every_from zero i = refl
+  every_from (suc n) i =
+      let z : k + size * (i + 1) ≡ k + size * i + size = omega (arith, mul-suc size i, ap (λ (j : ℕ). size * j) (add-one i)) in
+      ap (λ (t : Bool). one (drop (k + size * i) r) && t) (every_from n (i + 1) ∙ ap (λ (j : ℕ). every_of one size (drop j r) n) z ∙ ap (λ (l : List ℕ). every_of one size l n) (sym (drop-drop size (k + size * i) r)))
 
-  pub tested_fails : {b : Bool} → i < n → b ≡ one (drop (k + size * i) r) → not b ≡ true → false ≡ t
-  tested_fails {b} h e f = rw (← e, not-true b f) at (first h)
-
-  pub tested_more : {b : Bool} → i < n → b ≡ one (drop (k + size * i) r) → not b ≡ false → Tested one size k r n t (i + 1)
-  tested_more {b} h e f =
-      let z : k + size * i + size ≡ k + size * (i + 1) = omega (arith, mul-suc size i, ap (λ (n : ℕ). size * n) (add-one i)) in
-      record {
-        rest = ap (λ (j : ℕ). every_of one size (drop j r) (n - (i + 1))) (sym z) ∙ ap (λ (l : List ℕ). every_of one size l (n - (i + 1))) (sym (drop-drop size (k + size * i) r)) ∙ (rw (← e, not-false b f) at (first h));
-      }
-
-  pub tested_end : n ≤ i → true ≡ t
-  unfolding every_of
-  tested_end h = let f : 0 ≡ n - i = omega arith in ap (every_of one size (drop (k + size * i) r)) f ∙ p.rest
+  pub every_numbered : (n : ℕ) (t : Bool) → t ≡ list_all (λ j. one (drop (k + size * j) r)) (range_with_len 0 n) → t ≡ every_of one size (drop k r) n
+  every_numbered n t e = let z : k + size * 0 ≡ k = omega (arith, mul-zero size) in e ∙ every_from n 0 ∙ ap (λ (j : ℕ). every_of one size (drop j r) n) z

@@ -120,11 +120,10 @@ module _ (r : List ℕ) (b : Bytes r) where
   clear_gathering e =
       rw (and-true (sound_gathering (edition_in r) (at r 1) (at r 2)), gathering_read e, arguments_clear (at r 2), clear_add 6 11 9 r)
 
-  pub phase_gathers : (g : ℕ) (s u v w t : Bool) → at r 0 ≡ 2 → g ≡ at r 2 → s ≡ sound_gathering (edition_in r) (at r 1) (at r 2) → u ≡ clear (3 + g) (9 - (3 + g)) r
-      → v ≡ clear 9 17 r → w ≡ (u && v) → t ≡ (s && w) → t ≡ phase_holds r
-  phase_gathers g s u v w t e eg es eu ev ew et =
+  pub gathering_holds : at r 0 ≡ 2 → phase_holds r ≡ (sound_gathering (edition_in r) (at r 1) (at r 2) && (clear (3 + at r 2) (9 - (3 + at r 2)) r && clear 9 17 r))
+  gathering_holds e =
       let n : 9 - (3 + at r 2) ≡ 6 - at r 2 = omega arith in
-      et ∙ rw (ew, ev, eu, es, eg, n) (sym (clear_gathering e)) ∙ ap (λ (p : Phase). phase_stands (edition_in r) p r) (phase_gathering r (at r 0) refl (at r 1) (at r 2) e refl refl)
+      ap (λ (p : Phase). phase_stands (edition_in r) p r) (sym (phase_gathering r (at r 0) refl (at r 1) (at r 2) e refl refl)) ∙ rw n (clear_gathering e)
 
   inline_plain : Phase
   inline_plain = Inline (at r 9) (at r 10) (at r 11) (at r 12) (at r 13 + 256 * at r 14)
@@ -144,10 +143,8 @@ module _ (r : List ℕ) (b : Bytes r) where
       rw (and-true s)
       (ap (λ (t : Bool). s && t) (tag_clear 3 (stands (data_bytes inline_plain) 9 r && clear 15 11 r) e ∙ ap (λ (t : Bool). clear 1 8 r && (t && clear 15 11 r)) inline_read))
 
-  pub phase_inlines : (d : ℕ) (s u v w t : Bool) → at r 0 ≡ 3 → d ≡ at r 13 + 256 * at r 14 → s ≡ sound_inline (at r 9) (at r 10) (at r 11) (at r 12) d → u ≡ clear 1 8 r
-      → v ≡ clear 15 11 r → w ≡ (u && v) → t ≡ (s && w) → t ≡ phase_holds r
-  phase_inlines d s u v w t e ed es eu ev ew et =
-      et ∙ rw (ew, ev, eu, es, ed) (sym (clear_inline e)) ∙ ap (λ (p : Phase). phase_stands (edition_in r) p r) (phase_inline r (at r 0) refl inline_plain e (sym inline_is))
+  pub inline_holds : at r 0 ≡ 3 → phase_holds r ≡ (sound_inline (at r 9) (at r 10) (at r 11) (at r 12) (at r 13 + 256 * at r 14) && (clear 1 8 r && clear 15 11 r))
+  inline_holds e = ap (λ (p : Phase). phase_stands (edition_in r) p r) (sym (phase_inline r (at r 0) refl inline_plain e (sym inline_is))) ∙ clear_inline e
 
   upload_plain : Phase
   upload_plain = Upload (at r 15) (at r 16 + 256 * at r 17) (at r 18 + 256 * at r 19) (at r 20 + 256 * at r 21) (flag_at r 22) (at r 23) (at r 24 + 256 * at r 25)
@@ -185,10 +182,9 @@ module _ (r : List ℕ) (b : Bytes r) where
       ∙ sym (and_assoc (clear 1 8 r) (clear 9 6 r) (ltb (at r 22) 2))
       ∙ ap (λ (t : Bool). t && ltb (at r 22) 2) (sym (clear_add 8 6 1 r)))
 
-  pub phase_uploads : (z n m : ℕ) (s u f w t : Bool) → at r 0 ≡ 4 → z ≡ at r 18 + 256 * at r 19 → n ≡ at r 20 + 256 * at r 21 → m ≡ at r 24 + 256 * at r 25
-      → s ≡ upload_sound z n m → u ≡ clear 1 14 r → f ≡ ltb (at r 22) 2 → w ≡ (u && f) → t ≡ (s && w) → t ≡ phase_holds r
-  phase_uploads z n m s u f w t e ez en em es eu ef ew et =
-      et ∙ rw (ew, ef, eu, es, ez, en, em) (sym (clear_upload e)) ∙ ap (λ (p : Phase). phase_stands (edition_in r) p r) (phase_upload r (at r 0) refl upload_plain e (sym upload_is))
+  pub upload_holds : at r 0 ≡ 4 → phase_holds r
+      ≡ (upload_sound (at r 18 + 256 * at r 19) (at r 20 + 256 * at r 21) (at r 24 + 256 * at r 25) && (clear 1 14 r && ltb (at r 22) 2))
+  upload_holds e = ap (λ (p : Phase). phase_stands (edition_in r) p r) (sym (phase_upload r (at r 0) refl upload_plain e (sym upload_is))) ∙ clear_upload e
 
   -- ---- text, drawing, flow, refusals
 
@@ -205,9 +201,9 @@ module _ (r : List ℕ) (b : Bytes r) where
   unfolding sound_text
   text_sound = simp (get_or-drop, le-leb (at r 30) 255 (omega (arith, b 30)), and-true)
 
-  pub text_holds_lem : (x : ℕ) (f g w t : Bool) → f ≡ ltb (at r 36) 2 → g ≡ ltb (at r 37) 2 → w ≡ (f && g) → x ≡ at r 28 + 256 * at r 29 → t ≡ (leb x 495 && w) → t ≡ text_holds r
+  pub text_is : text_holds r ≡ (leb (at r 28 + 256 * at r 29) 495 && (ltb (at r 36) 2 && ltb (at r 37) 2))
   unfolding text_holds
-  text_holds_lem x f g w t ef eg ew ex et = rw (et, ex, ew, eg, ef, text_sound, text_read)
+  text_is = rw (text_sound, text_read)
 
   other_plain : other_bytes (port_of r) ≡ bit (colour_of (at r 38)).black ∷ (bytes_from r 39 2 ++ (bit (flag_at r 41) ∷ bytes_from r 42 5))
   unfolding port_of bytes_from
@@ -219,6 +215,6 @@ module _ (r : List ℕ) (b : Bytes r) where
   other_sound : thresholds_fit (flow_of (drop 41 r)) ≡ ltb (at r 42 + at r 43) 80
   other_sound = simp get_or-drop
 
-  pub others_hold : (x y : ℕ) (f g w t : Bool) → f ≡ ltb (at r 38) 2 → g ≡ ltb (at r 41) 2 → w ≡ (f && g) → x ≡ at r 42 → y ≡ at r 43 → t ≡ (ltb (x + y) 80 && w) → t ≡ other_holds r
+  pub others_are : other_holds r ≡ (ltb (at r 42 + at r 43) 80 && (ltb (at r 38) 2 && ltb (at r 41) 2))
   unfolding other_holds
-  others_hold x y f g w t ef eg ew ex ey et = rw (et, ex, ey, ew, eg, ef, other_sound, other_read)
+  others_are = rw (other_sound, other_read)

@@ -1,55 +1,24 @@
 -- The loops that write over bytes: byte by byte, and thing by thing.
 -- Assumes nothing.
 use mathlib.Core.Path.{◌≡◌, refl, sym, ap, ◌∙◌}
-use mathlib.Core.List.{List, [], ◌∷◌, ◌++◌}
-use Prim.Native.Nat.{ℕ, suc, ◌+◌, ◌-◌, ◌*◌, ◌<◌, ◌≤◌, min}
+use mathlib.Core.List.{List, [], ◌++◌}
+use Prim.Native.Nat.{ℕ, suc, ◌+◌, ◌-◌, ◌*◌, ◌<◌, ◌≤◌}
 use native.Mathlib.Omega.{arith}
 use native.Mathlib.Nat.{mul-zero, mul-suc}
 use native.Mathlib.Numerals.{add-one}
-use native.Mathlib.Decide.{dec_lt}
-use lib.ListN.{length, get_or, drop, set, length-set, drop_of_length-le}
-use lib.Seq.{drop-cons}
+use lib.ListN.{length, get_or, take, drop, drop_of_length-le}
+use lib.Seq.{drop-cons, drop-drop, take_all}
+use borrow.Rule.Slice.PartMut.{put_mid}
 use Rattle.record.specs.Writing.{over, many_bytes}
-use Rattle.record.proofs.Overwriting.{length_over, over_out, over_next}
+use Rattle.record.proofs.Overwriting.{length_over, over_is, over_next}
 
--- ---- byte by byte: i of the n bytes that there is room for are written
+-- ---- a part of it put back
 
-pub record Writing (l g₀ g : List ℕ) (k n i : ℕ) : Type 0 where
-  pub most : n ≡ min (length l) (length g₀ - k)
-  pub long : length g ≡ length g₀
-  pub within : i ≤ n
-  pub rest : over (drop i l) (k + i) g ≡ over l k g₀
-
-pub writing_start : (l g : List ℕ) (k n : ℕ) → n ≡ min (length l) (length g - k) → Writing l g g k n 0
-writing_start l g k n e =
-    let z : k + 0 ≡ k = omega arith in
-    record { most = e; long = refl; within = omega arith; rest = rw z }
-
--- there is room for all of them
-pub writing_inside : (l g : List ℕ) (k : ℕ) → k + length l ≤ length g → Writing l g g k (length l) 0
-writing_inside l g k h = writing_start l g k (length l) (omega arith)
-
-module _ {l g₀ g : List ℕ} {k n i : ℕ} (w : Writing l g₀ g k n i) where
-  pub writing_step : {b : ℕ} → i < n → b ≡ get_or l i 0 → Writing l g₀ (set g (k + i) b) k n (i + 1)
-  unfolding over
-  writing_step {b} h e =
-      let z : k + (i + 1) ≡ k + i + 1 = omega arith in
-      let r : over (get_or l i 0 ∷ drop (suc i) l) (k + i) g ≡ over l k g₀ = rw (drop-cons l i 0 (omega (arith, w.most))) at w.rest in
-      record {
-        most = w.most;
-        long = length-set g (k + i) b ∙ w.long;
-        within = omega arith;
-        rest = rw (z, add-one i, e) r;
-      }
-
-  pub writing_end : n ≤ i → g ≡ over l k g₀
-  unfolding over
-  writing_end h =
-      elim (dec_lt (length g₀ - k) (length l)) [
-        | yes s ↦ sym (over_out (drop i l) (k + i) g (omega (arith, w.most, w.long, w.within))) ∙ w.rest
-        | no s ↦ (let d : drop i l ≡ [] = drop_of_length-le l {i = i} (omega (arith, w.most, w.within)) in
-            let r : over [] (k + i) g ≡ over l k g₀ = rw d at w.rest in r)
-      ]
+-- h, all of l, from k on
+pub over_inside : (l g h : List ℕ) (k e : ℕ) → k + length l ≤ length g → e ≡ k + length l → h ≡ l → put_mid k (e - k) g h ≡ over l k g
+over_inside l g h k e q f i =
+    let n : e - k ≡ length l = omega arith in
+    rw (n, i) (ap (λ (m : List ℕ). take k g ++ (m ++ drop (length l) (drop k g))) (sym (take_all (length g - k) l (omega arith))) ∙ rw (drop-drop (length l) k g) (sym (over_is l k g (omega arith))))
 
 -- ---- thing by thing, each of `size` bytes: those in front of number i are written
 

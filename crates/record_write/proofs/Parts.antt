@@ -3,11 +3,11 @@
 use mathlib.Core.Path.{◌≡◌, refl, sym, ap, ◌∙◌}
 use mathlib.Core.Bool.{Bool}
 use mathlib.Core.List.{List, [], ◌∷◌, ◌++◌}
-use Prim.Native.Nat.{ℕ, ◌+◌}
+use Prim.Native.Nat.{ℕ}
 use lib.ListN.{length, take, drop}
 use Rattle.queue.specs.Record.{bit}
 use Rattle.state.specs.declared.Phase.{Phase}
-use Rattle.state.specs.declared.Phase.TheVariants.{Gathering, Inline, Upload}
+use Rattle.state.specs.declared.Phase.TheVariants.{Upload}
 use Rattle.state.specs.declared.Port.{Port}
 use Rattle.state.specs.declared.Panel.{Panel}
 use Rattle.state.specs.declared.State.{State}
@@ -19,12 +19,6 @@ use Rattle.record.proofs.Overwriting.{over_next, over_front, over_all}
 use Rattle.record.proofs.Whole.{Sized, length-gathering, length-data, length-phase, length-port, length-bars, length-strips, length-sized}
 
 -- ---- writing: the phase, in the form that holds fields
-
-pub gathering_written : (p : Phase) (c g : ℕ) → p ≡ Gathering c g → (2 ∷ c ∷ g ∷ []) ≡ gathering_bytes p
-gathering_written p c g e = rw e
-
-pub data_written : (p : Phase) (x1 y1 x2 y2 d a b : ℕ) → p ≡ Inline x1 y1 x2 y2 d → a ≡ low d → b ≡ high d → (x1 ∷ y1 ∷ x2 ∷ y2 ∷ a ∷ b ∷ []) ≡ data_bytes p
-data_written p x1 y1 x2 y2 d a b e f g = rw (e, f, g)
 
 pub upload_written : (p : Phase) (k n z s : ℕ) (w : Bool) (b m n1 n2 z1 z2 s1 s2 w1 m1 m2 : ℕ) → p ≡ Upload k n z s w b m → n1 ≡ low n → n2 ≡ high n → z1 ≡ low z → z2 ≡ high z
     → s1 ≡ low s → s2 ≡ high s → w1 ≡ bit w → m1 ≡ low m → m2 ≡ high m → (k ∷ n1 ∷ n2 ∷ z1 ∷ z2 ∷ s1 ∷ s2 ∷ w1 ∷ b ∷ m1 ∷ m2 ∷ []) ≡ upload_bytes p

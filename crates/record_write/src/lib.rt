@@ -1,70 +1,25 @@
 // The record of a state, written over the bytes that a caller keeps.
 #![tactic(auto)]
 
-ghost use Rattle.std.specs.Prelude.{◌≡◌, [], ◌∷◌, ◌+◌, ◌-◌, ◌≤◌, min, ◌<◌, length};
-ghost use Rattle.queue.specs.Record.{bit};
-ghost use Rattle.record.specs.Layout.{phase_at, arguments_at, port_size, height_at, bars_at, strips_at, record_size};
-ghost use Rattle.record.specs.Writing.{low, high, many_bytes, gathering_bytes, data_bytes, upload_bytes, text_bytes, other_bytes, phase_bytes, port_bytes};
+ghost use Rattle.std.specs.Prelude.{◌≡◌, [], ◌∷◌, ◌+◌, ◌≤◌, length};
+ghost use Rattle.record.specs.Layout.{phase_at, arguments_at, port_size, height_at, bars_at, strips_at};
+ghost use Rattle.record.specs.Writing.{many_bytes, gathering_bytes, data_bytes, upload_bytes, text_bytes, other_bytes, phase_bytes, port_bytes};
 ghost use Rattle.record.specs.Writing.{slot_bytes, strip_bytes, last_bytes, panel_bytes, over};
 ghost use Rattle.record.specs.Record.{encoded_in};
 
 use record::{
     BAR_SIZE, DRAWING, FIRST_BAR, FIRST_STRIP, GATHERED, HEIGHT, INLINE, PHASE, SERIAL, STRIP_SIZE,
-    TEXT, UPLOAD,
+    TEXT, UPLOAD, copy_bytes, put,
 };
 use state::{ARGUMENTS, BARS, BarSlot, Config, Panel, Phase, Port, STRIPS, State, Strip, Text};
 
-fn bit(flag: bool) -> u8
-    ensures { result ≡ bit flag }
-{
-    if flag { 1 } else { 0 }
-}
-
-fn low(n: u16) -> u8
-    ensures { result ≡ low n }
-{
-    (n % 256) as u8
-}
-
-fn high(n: u16) -> u8
-    ensures { result ≡ high n }
-{
-    (n / 256) as u8
-}
-
-// How many of n bytes there is room for from k on.
-fn room(n: usize, length: usize, k: usize) -> usize
-    ensures { result ≡ min n (length - k) }
-{
-    if length <= k {
-        return 0;
-    }
-    if n < length - k { n } else { length - k }
-}
-
-// Writes bytes from index k on, as far as there is room.
-fn put(out: &mut [u8], k: usize, l: &[u8])
-    requires { k < record_size }
-    ensures { out.new ≡ over l.now k out.old }
-{
-    let n = room(l.len(), out.len(), k);
-    let mut i = 0;
-    while i < n {
-        out[k + i] = l[i];
-        i += 1;
-    }
-}
-
 // Writes bytes from index k on, where there is room for all of them.
-fn put_inside(out: &mut [u8], k: usize, l: &[u8])
-    requires { k + length l.now ≤ length out.old }
-    ensures { out.new ≡ over l.now k out.old }
+#[tactic(auto, using(crate::proofs::Loops::over_inside))]
+fn put_inside(out: &mut [u8], k: usize, bytes: &[u8])
+    requires { k + length bytes.now ≤ length out.old }
+    ensures { out.new ≡ over bytes.now k out.old }
 {
-    let mut i = 0;
-    while i < l.len() {
-        out[k + i] = l[i];
-        i += 1;
-    }
+    copy_bytes(&mut out[k..k + bytes.len()], bytes);
 }
 
 // The tag of the phase, and what is gathered.
@@ -75,67 +30,33 @@ fn gathering_bytes(phase: Phase) -> [u8; 3]
         Phase::Idle => [0, 0, 0],
         Phase::Prefix => [1, 0, 0],
         Phase::Gathering { code, got } => [2, code, got],
-        Phase::Inline {
-            x1: _,
-            y1: _,
-            x2: _,
-            y2: _,
-            done: _,
-        } => [3, 0, 0],
-        Phase::Upload {
-            sort: _,
-            number: _,
-            size: _,
-            stored: _,
-            waiting: _,
-            byte: _,
-            waited: _,
-        } => [4, 0, 0],
+        Phase::Inline { .. } => [3, 0, 0],
+        Phase::Upload { .. } => [4, 0, 0],
     }
 }
 
 fn data_bytes(phase: Phase) -> [u8; 6]
     ensures { result ≡ data_bytes phase }
 {
-    let none = [0, 0, 0, 0, 0, 0];
     match phase {
-        Phase::Idle => none,
-        Phase::Prefix => none,
-        Phase::Gathering { code: _, got: _ } => none,
         Phase::Inline {
             x1,
             y1,
             x2,
             y2,
             done,
-        } => [x1, y1, x2, y2, low(done), high(done)],
-        Phase::Upload {
-            sort: _,
-            number: _,
-            size: _,
-            stored: _,
-            waiting: _,
-            byte: _,
-            waited: _,
-        } => none,
+        } => {
+            let done = done.to_le_bytes();
+            [x1, y1, x2, y2, done[0], done[1]]
+        }
+        _ => [0; 6],
     }
 }
 
 fn upload_bytes(phase: Phase) -> [u8; 11]
     ensures { result ≡ upload_bytes phase }
 {
-    let none = [0, 0, 0, 0, 0, 0, 0, 0, 0, 0, 0];
     match phase {
-        Phase::Idle => none,
-        Phase::Prefix => none,
-        Phase::Gathering { code: _, got: _ } => none,
-        Phase::Inline {
-            x1: _,
-            y1: _,
-            x2: _,
-            y2: _,
-            done: _,
-        } => none,
         Phase::Upload {
             sort,
             number,
@@ -144,38 +65,47 @@ fn upload_bytes(phase: Phase) -> [u8; 11]
             waiting,
             byte,
             waited,
-        } => [
-            sort,
-            low(number),
-            high(number),
-            low(size),
-            high(size),
-            low(stored),
-            high(stored),
-            bit(waiting),
-            byte,
-            low(waited),
-            high(waited),
-        ],
+        } => {
+            let number = number.to_le_bytes();
+            let size = size.to_le_bytes();
+            let stored = stored.to_le_bytes();
+            let waited = waited.to_le_bytes();
+            [
+                sort,
+                number[0],
+                number[1],
+                size[0],
+                size[1],
+                stored[0],
+                stored[1],
+                u8::from(waiting),
+                byte,
+                waited[0],
+                waited[1],
+            ]
+        }
+        _ => [0; 11],
     }
 }
 
 fn text_bytes(t: Text) -> [u8; 12]
     ensures { result ≡ text_bytes t }
 {
+    let font = t.font.to_le_bytes();
+    let x = t.x.to_le_bytes();
     [
-        low(t.font),
-        high(t.font),
-        low(t.x),
-        high(t.x),
+        font[0],
+        font[1],
+        x[0],
+        x[1],
         t.y,
         t.left,
         t.top,
         t.char_space,
         t.line_space,
         t.scroll_row,
-        bit(t.wrap),
-        bit(t.scroll),
+        u8::from(t.wrap),
+        u8::from(t.scroll),
     ]
 }
 
@@ -183,15 +113,16 @@ fn text_bytes(t: Text) -> [u8; 12]
 fn other_bytes(p: Port) -> [u8; 9]
     ensures { result ≡ other_bytes p }
 {
+    let count = p.refusals.count.to_le_bytes();
     [
-        bit(p.drawing.colour.black),
+        u8::from(p.drawing.colour.black),
         p.drawing.x,
         p.drawing.y,
-        bit(p.flow.on),
+        u8::from(p.flow.on),
         p.flow.full,
         p.flow.empty,
-        low(p.refusals.count),
-        high(p.refusals.count),
+        count[0],
+        count[1],
         p.refusals.last,
     ]
 }
@@ -208,15 +139,10 @@ fn encode_phase(port: Port, out: &mut [u8])
     ensures { (out.new ≡ over (phase_bytes port) phase_at out.old) × (length port.line.args ≡ 6) }
 {
     let line = port.line;
-    let phase = line.phase;
-    let gathering = gathering_bytes(phase);
-    put_inside(out, PHASE, &gathering);
-    let args = line.args;
-    encode_arguments(args, out);
-    let inline = data_bytes(phase);
-    put_inside(out, INLINE, &inline);
-    let upload = upload_bytes(phase);
-    put_inside(out, UPLOAD, &upload);
+    put_inside(out, PHASE, &gathering_bytes(line.phase));
+    encode_arguments(line.args, out);
+    put_inside(out, INLINE, &data_bytes(line.phase));
+    put_inside(out, UPLOAD, &upload_bytes(line.phase));
 }
 
 // The bytes of a port over the first bytes of a record that has room for them all.
@@ -225,11 +151,8 @@ fn encode_inside(port: Port, out: &mut [u8])
     ensures { (out.new ≡ over (port_bytes port) phase_at out.old) × (length port.line.args ≡ 6) }
 {
     encode_phase(port, out);
-    let text = port.text;
-    let bytes = text_bytes(text);
-    put_inside(out, TEXT, &bytes);
-    let other = other_bytes(port);
-    put_inside(out, DRAWING, &other);
+    put_inside(out, TEXT, &text_bytes(port.text));
+    put_inside(out, DRAWING, &other_bytes(port));
 }
 
 // Writes the bytes of a port over the first bytes, as far as there are any; all others stay.
@@ -257,7 +180,7 @@ fn slot_bytes(s: BarSlot) -> [u8; BAR_SIZE]
     ensures { result ≡ slot_bytes s }
 {
     [
-        bit(s.on),
+        u8::from(s.on),
         s.bar.kind,
         s.bar.x1,
         s.bar.y1,
@@ -267,33 +190,26 @@ fn slot_bytes(s: BarSlot) -> [u8; BAR_SIZE]
     ]
 }
 
+// No generic function for bars and strips: a trait for the bytes of each, with a size and laws, is longer than the two loops.
 fn encode_bars(bars: [BarSlot; BARS], out: &mut [u8])
     ensures { (out.new ≡ over (many_bytes slot_bytes bars) bars_at out.old) × (length bars ≡ 16) }
 {
-    let mut i = 0;
-    while i < BARS {
-        let slot = bars[i];
-        let bytes = slot_bytes(slot);
-        put(out, FIRST_BAR + BAR_SIZE * i, &bytes);
-        i += 1;
+    for i in 0..BARS {
+        put(out, FIRST_BAR + BAR_SIZE * i, &slot_bytes(bars[i]));
     }
 }
 
 fn strip_bytes(s: Strip) -> [u8; STRIP_SIZE]
     ensures { result ≡ strip_bytes s }
 {
-    [bit(s.on), s.x1, s.y1, s.x2, s.y2]
+    [u8::from(s.on), s.x1, s.y1, s.x2, s.y2]
 }
 
 fn encode_strips(strips: [Strip; STRIPS], out: &mut [u8])
     ensures { (out.new ≡ over (many_bytes strip_bytes strips) strips_at out.old) × (length strips ≡ 8) }
 {
-    let mut i = 0;
-    while i < STRIPS {
-        let strip = strips[i];
-        let bytes = strip_bytes(strip);
-        put(out, FIRST_STRIP + STRIP_SIZE * i, &bytes);
-        i += 1;
+    for i in 0..STRIPS {
+        put(out, FIRST_STRIP + STRIP_SIZE * i, &strip_bytes(strips[i]));
     }
 }
 
@@ -301,37 +217,32 @@ fn encode_strips(strips: [Strip; STRIPS], out: &mut [u8])
 fn last_bytes(p: Panel) -> [u8; 8]
     ensures { result ≡ last_bytes p }
 {
+    let used = p.used.to_le_bytes();
     [
-        bit(p.serial.on),
+        u8::from(p.serial.on),
         p.serial.a,
         p.serial.b,
         p.contrast,
-        bit(p.backlight.on),
+        u8::from(p.backlight.on),
         p.backlight.minutes,
-        low(p.used),
-        high(p.used),
+        used[0],
+        used[1],
     ]
 }
 
 fn encode_panel(panel: Panel, out: &mut [u8])
     ensures { (out.new ≡ over (panel_bytes panel) bars_at out.old) × (length panel.bars ≡ 16) × (length panel.strips ≡ 8) }
 {
-    let bars = panel.bars;
-    let strips = panel.strips;
-    encode_bars(bars, out);
-    encode_strips(strips, out);
-    let last = last_bytes(panel);
-    put(out, SERIAL, &last);
+    encode_bars(panel.bars, out);
+    encode_strips(panel.strips, out);
+    put(out, SERIAL, &last_bytes(panel));
 }
 
 // Writes the record of a state over the first bytes, as far as there are any; all others stay.
 pub fn encode(s: State, out: &mut [u8])
     ensures { out.new ≡ encoded_in s out.old }
 {
-    let port = s.port;
-    let panel = s.panel;
-    encode_port(port, out);
-    let config = s.config;
-    encode_config(config, out);
-    encode_panel(panel, out);
+    encode_port(s.port, out);
+    encode_config(s.config, out);
+    encode_panel(s.panel, out);
 }

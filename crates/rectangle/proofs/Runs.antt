@@ -1,20 +1,21 @@
 -- Whole bytes painted one after another.
 -- Assumes nothing.
-use mathlib.Core.Path.{◌≡◌, refl, sym, ap, subst, ◌∙◌}
-use mathlib.Core.Bool.{Bool, true, false, cond, ◌||◌, and-true}
+use mathlib.Core.Path.{◌≡◌, sym, ap, ◌∙◌}
+use mathlib.Core.Bool.{Bool, true, false, cond, ◌||◌}
 use mathlib.Core.List.{List}
-use Prim.Native.Nat.{ℕ, ◌+◌, ◌%◌, ◌<◌, ◌≤◌, max, min}
+use Prim.Native.Nat.{ℕ, ◌+◌, ◌-◌, ◌*◌, ◌/◌, ◌%◌, ◌<◌, ◌≤◌, min}
 use native.Mathlib.Omega.{arith}
-use lib.Dec.{eqb}
-use lib.ListN.{length, get_or, set, length-set}
+use native.Mathlib.Decide.{dec_lt}
+use lib.ListN.{length, get_or, replicate, length-replicate, get_or-replicate, get_or-eq_default}
 use borrow.Author.Tests.{le-leb}
-use Rattle.pixels.specs.Framebuffer.{Region, bit_of, cell, fill, plain}
-use Rattle.pixels.proofs.Bits.{byte_is, bit_run, bit_zero}
+use borrow.Rule.Slice.PartMut.{put_mid, same_len_mid, mid_len}
+use Rattle.pixels.specs.Framebuffer.{Region, bit_of, cell, pixel, fill, plain}
+use Rattle.pixels.proofs.Bits.{bit_run, bit_zero}
 use Rattle.pixels.proofs.Pictures.{Bytes}
-use Rattle.pixels.proofs.Painting.{put_off, put_put, put_region, bytes_repaint}
-use Rattle.pixels.proofs.Intervals.{within_none, within_more, within_over, within_iff, within_cut}
-use Rattle.canvas.specs.Canvas.{masked, painted_of}
-use Rattle.canvas.proofs.Strokes.{stamp_on}
+use Rattle.pixels.proofs.Painting.{is_repaint, put_put, put_region}
+use Rattle.pixels.proofs.Intervals.{within_yes, within_before, within_after, within_over, within_iff}
+use Rattle.pixels.proofs.Rows.{get_or-back, bytes_back}
+use Rattle.pixels.specs.Regions.{within}
 use Rattle.rectangle.specs.Ends.{solid_byte, whole_bytes}
 
 -- one region more
@@ -43,41 +44,33 @@ pub solid_white : (c : Bool) → c ≡ false → 0 ≡ solid_byte c
 unfolding solid_byte
 solid_white c e = rw e
 
-solid_painted : (b : ℕ) (c : Bool) → solid_byte c ≡ painted_of b 255 c
-unfolding painted_of
-solid_painted b c =
-    byte_is (solid_byte c) (λ k. cond (bit_of 255 k) c (bit_of b k)) (solid_lt c) (λ k h. solid_bit c k h ∙ rw (bit_all k h))
+-- bytes from number a up to number e, each of them solid
+module _ (g m : List ℕ) (a e n b : ℕ) (c : Bool) (low : a ≤ e) (high : e ≤ length g) (count : n ≡ e - a) (solid : b ≡ solid_byte c) (all : m ≡ replicate n b) (bytes : Bytes g) where
+  long : length m ≡ e - a
+  long = ap length all ∙ length-replicate n b ∙ count
 
--- bytes from number a up to number i, on the way to number e; n is stored in each
-pub record Run (a e i n : ℕ) (g₀ g : List ℕ) : Type 0 where
-  pub low : a ≤ i
-  pub high : i ≤ max a e
-  pub long : length g ≡ length g₀
-  pub shows : (c : Bool) → n ≡ solid_byte c → g ≡ fill (whole_bytes a i) c g₀
+  each : (k : ℕ) → k < e - a → get_or m k 0 ≡ solid_byte c
+  each k h = ap (λ (l : List ℕ). get_or l k 0) all ∙ get_or-replicate n k b 0 (omega arith) ∙ solid
 
-module _ {a e n : ℕ} {g₀ : List ℕ} where
-  pub run_none : Bytes g₀ → Run a e a n g₀ g₀
-  run_none b =
-      record {
-        low = omega arith;
-        high = omega arith;
-        long = refl;
-        shows = λ c q. put_off (whole_bytes a a) (plain c) g₀ b (λ u v on. within_none a (cell u v));
-      }
+  solid_bytes : Bytes m
+  solid_bytes k =
+      elim (dec_lt k (e - a)) [
+        | yes p ↦ rw (each k p) (solid_lt c)
+        | no p ↦ rw (get_or-eq_default m 0 {n = k} (omega (arith, long))) (omega arith)
+      ]
 
-  pub run_more : {i : ℕ} {g : List ℕ} → Run a e i n g₀ g → i < e → i < length g → Run a e (i + 1) n g₀ (set g i n)
-  run_more {i} {g} s h l = record { low = omega (arith, s.low); high = omega arith; long = length-set g i n ∙ s.long; shows = all }
-    where
-      all : (c : Bool) → n ≡ solid_byte c → set g i n ≡ fill (whole_bytes a (i + 1)) c g₀
-      all c q =
-          more (whole_bytes a i) (masked i 255) c g₀ g (set g i n) (s.shows c q)
-          (stamp_on g i 255 n c (subst Bytes (sym (s.shows c q)) (bytes_repaint _ g₀)) l (q ∙ solid_painted (get_or g i 0) c))
-          ∙ put_region (λ u v. whole_bytes a i u v || masked i 255 u v) (whole_bytes a (i + 1)) (plain c) g₀
-          (λ u v on. rw (bit_all (u % 8) (omega arith), and-true (eqb (cell u v) i)) (within_more a i (cell u v) s.low))
-
-  pub run_all : {i : ℕ} {g : List ℕ} (c : Bool) → Run a e i n g₀ g → n ≡ solid_byte c → e ≤ i → g ≡ fill (whole_bytes a e) c g₀
-  run_all {i} c s q l =
-      s.shows c q ∙ put_region (whole_bytes a i) (whole_bytes a e) (plain c) g₀ (λ u v on. within_iff a i (cell u v) a e (cell u v) (omega (arith, s.high)) (omega (arith, s.high)))
+  pub run_filled : put_mid a (e - a) g m ≡ fill (whole_bytes a e) c g
+  unfolding pixel
+  run_filled =
+      is_repaint (put_mid a (e - a) g m) (λ u v o. cond (within a e (30 * v + u / 8)) c o) g (same_len_mid a (e - a) g m (long ∙ sym (mid_len a e g high)))
+      (bytes_back a e g m low high long bytes solid_bytes)
+      (λ u v on. rw (get_or-back a e g m low high long (30 * v + u / 8)) (elim (dec_lt (30 * v + u / 8) a) [
+        | yes p ↦ rw (within_before a e (30 * v + u / 8) p)
+        | no p ↦ (elim (dec_lt (30 * v + u / 8) e) [
+          | yes q ↦ rw (within_yes a e (30 * v + u / 8) (omega arith) q, each (30 * v + u / 8 - a) (omega arith)) (solid_bit c (u % 8) (omega arith))
+          | no q ↦ rw (within_after a e (30 * v + u / 8) (omega arith))
+        ])
+      ]))
 
 -- two runs of which the second begins in the first, or behind it
 pub two_runs : (a b i j : ℕ) (c : Bool) (g g1 g2 : List ℕ) → a ≤ i → i ≤ b → b ≤ j → g1 ≡ fill (whole_bytes a b) c g → g2 ≡ fill (whole_bytes i j) c g1
@@ -86,7 +79,7 @@ two_runs a b i j c g g1 g2 h k l p q =
     more (whole_bytes a b) (whole_bytes i j) c g g1 g2 p q
     ∙ put_region (λ u v. whole_bytes a b u v || whole_bytes i j u v) (whole_bytes a j) (plain c) g (λ u v on. within_over a b i j (cell u v) h k l)
 
--- a run that goes to the end of the framebuffer, if that comes first
-pub run_cut : (a b e : ℕ) (c : Bool) (g h : List ℕ) → e ≡ min b (length g) → h ≡ fill (whole_bytes a e) c g → h ≡ fill (whole_bytes a b) c g
-run_cut a b e c g h q p =
-    p ∙ rw q (put_region (whole_bytes a (min b (length g))) (whole_bytes a b) (plain c) g (λ u v on. within_cut a b (length g) (cell u v) on.1))
+-- a run of which only what the framebuffer has is filled
+pub run_cut : (a b i e : ℕ) (c : Bool) (g h : List ℕ) → i ≡ min (length g) a → e ≡ min (length g) b → h ≡ fill (whole_bytes i e) c g → h ≡ fill (whole_bytes a b) c g
+run_cut a b i e c g h p q r =
+    r ∙ put_region (whole_bytes i e) (whole_bytes a b) (plain c) g (λ u v on. within_iff i e (cell u v) a b (cell u v) (omega (arith, on.1)) (omega (arith, on.1)))

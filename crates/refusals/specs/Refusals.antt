@@ -1,6 +1,8 @@
 -- The numbers of the refusals: why a command or a character was not obeyed. Each stands here and nowhere else.
 -- Assumes nothing.
 use Rattle.std.specs.Prelude.{◌≡◌, ℕ, ◌≤◌}
+use Rattle.refusals.specs.declared.Refusal.{Refusal}
+use Rattle.refusals.specs.declared.Refusal.TheVariants.{UnknownCommand, OutOfBounds, CornersOutOfOrder, NumberOutOfRange, UnknownType, NotSetUp, NoSuchFile, MalformedFile, NoSpace, NumberInUse, UploadAborted, BadWatermarks, GlyphDoesNotFit}
 
 -- unknown code
 abbrev pub unknown_command : ℕ
@@ -60,3 +62,19 @@ Given n = (unknown_command ≤ n) × (n ≤ glyph_does_not_fit) × (n ≡ no_gly
 -- an answer that is no refusal
 abbrev pub accepted : ℕ
 accepted = 0
+
+-- a refusal's number
+abbrev pub number_of : Refusal → ℕ
+number_of UnknownCommand = unknown_command
+number_of OutOfBounds = out_of_bounds
+number_of CornersOutOfOrder = corners_out_of_order
+number_of NumberOutOfRange = number_out_of_range
+number_of UnknownType = unknown_type
+number_of NotSetUp = not_set_up
+number_of NoSuchFile = no_such_file
+number_of MalformedFile = malformed_file
+number_of NoSpace = no_space
+number_of NumberInUse = number_in_use
+number_of UploadAborted = upload_aborted
+number_of BadWatermarks = bad_watermarks
+number_of GlyphDoesNotFit = glyph_does_not_fit

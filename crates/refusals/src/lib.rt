@@ -1,30 +1,45 @@
-// The numbers of the refusals: why a command or a character was not obeyed. The same names as in `specs/`.
+// The refusals: why a command or a character was not obeyed, each with its number.
 #![tactic(auto)]
 
-pub const UNKNOWN_COMMAND: u8 = 16;
+ghost use Rattle.std.specs.Prelude.{◌≡◌};
+ghost use Rattle.refusals.specs.Refusals.{number_of};
 
-pub const OUT_OF_BOUNDS: u8 = 17;
+#[derive(Clone, Copy, Debug, PartialEq, Eq)]
+pub enum Refusal {
+    UnknownCommand,
+    OutOfBounds,
+    CornersOutOfOrder,
+    NumberOutOfRange,
+    UnknownType,
+    NotSetUp,
+    NoSuchFile,
+    MalformedFile,
+    NoSpace,
+    NumberInUse,
+    UploadAborted,
+    BadWatermarks,
+    GlyphDoesNotFit,
+}
 
-pub const CORNERS_OUT_OF_ORDER: u8 = 18;
+impl From<Refusal> for u8 {
+    ghost from_gives = { λ refusal number. number ≡ number_of refusal };
 
-pub const NUMBER_OUT_OF_RANGE: u8 = 19;
-
-pub const UNKNOWN_TYPE: u8 = 20;
-
-pub const NOT_SET_UP: u8 = 21;
-
-pub const NO_SUCH_FILE: u8 = 22;
-
-pub const MALFORMED_FILE: u8 = 23;
-
-pub const NO_SPACE: u8 = 24;
-
-pub const NUMBER_IN_USE: u8 = 25;
-
-pub const UPLOAD_ABORTED: u8 = 26;
-
-pub const BAD_WATERMARKS: u8 = 27;
-
-pub const NO_GLYPH: u8 = 28;
-
-pub const GLYPH_DOES_NOT_FIT: u8 = 29;
+    fn from(refusal: Refusal) -> u8 {
+        match refusal {
+            Refusal::UnknownCommand => 16,
+            Refusal::OutOfBounds => 17,
+            Refusal::CornersOutOfOrder => 18,
+            Refusal::NumberOutOfRange => 19,
+            Refusal::UnknownType => 20,
+            Refusal::NotSetUp => 21,
+            Refusal::NoSuchFile => 22,
+            Refusal::MalformedFile => 23,
+            Refusal::NoSpace => 24,
+            Refusal::NumberInUse => 25,
+            Refusal::UploadAborted => 26,
+            Refusal::BadWatermarks => 27,
+            // 28, a character that the font lacks, is no longer given.
+            Refusal::GlyphDoesNotFit => 29,
+        }
+    }
+}

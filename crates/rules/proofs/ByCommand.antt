@@ -20,8 +20,8 @@ use Rattle.strip_chart.proofs.Footprint.{strip_footprint}
 use Rattle.line.specs.Line.{line}
 use Rattle.rectangle.specs.Frame.{frame}
 use Rattle.bar_ledger.specs.Ledger.{quiet, set_up, wrote, painted}
-use Rattle.directory.specs.declared.Found.{Found}
-use Rattle.directory.specs.declared.Found.TheVariants.{At, Nothing}
+use Rattle.std.specs.Prelude.{Option, Some, None}
+use Rattle.directory.specs.declared.Location.{Location}
 use Rattle.directory.specs.Directory.{find_of, entries, bytes_in, has_file}
 use Rattle.files.specs.Files.{unused_of}
 use Rattle.opened_font.specs.Glyphs.{glyph_of}
@@ -94,10 +94,10 @@ unfolding bitmap_in
 bitmap_in_lem w f x y =
     passes w _ (not (is_bitmap f)) 23 _ (λ _. fair_painted w _ refl refl refl _ (packed_footprint x y (bitmap_width f) (bitmap_height f) (drop 2 f) w.framebuffer))
 
-bitmap_at_lem : (w : World) (t : Found) (x y : ℕ) → Obeying w (bitmap_event w.store t x y) (bitmap_at w t x y)
+bitmap_at_lem : (w : World) (t : Option Location) (x y : ℕ) → Obeying w (bitmap_event w.store t x y) (bitmap_at w t x y)
 unfolding bitmap_at
-bitmap_at_lem w Nothing x y = tt
-bitmap_at_lem w (At p a z) x y = bitmap_in_lem w (take z (drop a w.store)) x y
+bitmap_at_lem w None x y = tt
+bitmap_at_lem w (Some f) x y = bitmap_in_lem w (take f.size (drop f.start w.store)) x y
 
 pub bitmap_obeys : (w : World) (n x y : ℕ) → Obeying w (bitmap_event w.store (find_of w.store 2 n) x y) (show_bitmap w n x y)
 unfolding show_bitmap

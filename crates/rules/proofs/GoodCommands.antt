@@ -1,7 +1,7 @@
 -- Each command on a good world leaves a good one, of the same height and with as much store: drawing, bars and strips, bitmaps, settings.
 -- Assumes nothing.
 use mathlib.Core.Path.{◌≡◌, refl}
-use mathlib.Core.Bool.{Bool, true, false, not, ◌&&◌}
+use mathlib.Core.Bool.{true, false, not, ◌&&◌}
 use mathlib.Core.List.{List}
 use Prim.Native.Nat.{ℕ, ◌+◌, ◌%◌, ◌<◌, min}
 use native.Mathlib.Omega.{arith}
@@ -10,12 +10,12 @@ use lib.ListN.{take, drop}
 use borrow.Author.Tests.{leb-false, ltb-true, le-leb, lt-ltb, not-false}
 use Rattle.queue.specs.Record.{Bytes}
 use Rattle.pixels.proofs.Painting.{bytes_repaint}
-use Rattle.pixels.specs.Framebuffer.{repaint, width}
+use Rattle.pixels.specs.Framebuffer.{width}
 use Rattle.pixels.proofs.Tests.{by_test}
 use Rattle.bar_graph.specs.declared.Bar.{Bar}
 use Rattle.bar_graph.specs.Bars.{length_of, held_to, write_of, written_bar}
-use Rattle.directory.specs.declared.Found.{Found}
-use Rattle.directory.specs.declared.Found.TheVariants.{At, Nothing}
+use Rattle.std.specs.Prelude.{Option, Some, None}
+use Rattle.directory.specs.declared.Location.{Location}
 use Rattle.directory.specs.Directory.{find_of}
 use Rattle.fonts.specs.Bitmaps.{is_bitmap}
 use Rattle.file_laws.proofs.Written.{and_both}
@@ -165,10 +165,10 @@ module _ {n : Config} {m : ℕ} {w : World} (p : Parts n m w) where
 
   -- ---- saved bitmaps
 
-  bitmap_at_lem : (t : Found) (x y : ℕ) → Leaves n m (bitmap_at w t x y)
+  bitmap_at_lem : (t : Option Location) (x y : ℕ) → Leaves n m (bitmap_at w t x y)
   unfolding bitmap_at bitmap_in
-  bitmap_at_lem Nothing x y = omega arith
-  bitmap_at_lem (At q a z) x y = passes n m (not (is_bitmap (take z (drop a w.store)))) 23 _ (omega arith) (λ _. put_framebuffer p (bytes_repaint _ _))
+  bitmap_at_lem None x y = omega arith
+  bitmap_at_lem (Some f) x y = passes n m (not (is_bitmap (take f.size (drop f.start w.store)))) 23 _ (omega arith) (λ _. put_framebuffer p (bytes_repaint _ _))
 
   pub bitmap_good : (i x y : ℕ) → Leaves n m (show_bitmap w i x y)
   unfolding show_bitmap

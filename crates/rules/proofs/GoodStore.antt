@@ -12,8 +12,8 @@ use lib.Seq.{length-paste}
 use borrow.Author.Tests.{leb-true, leb-false, lt-leb, lt-ltb, le-ltb, ltb-false, eqb-true}
 use Rattle.pixels.proofs.Tests.{by_test, or_one, or_two}
 use Rattle.directory.specs.declared.Entry.{Entry}
-use Rattle.directory.specs.declared.Found.{Found}
-use Rattle.directory.specs.declared.Found.TheVariants.{At, Nothing}
+use Rattle.std.specs.Prelude.{Option, Some, None}
+use Rattle.directory.specs.declared.Location.{Location}
 use Rattle.directory.specs.Directory.{length_of, sort_of, max_number, max_records, entries, bytes_in, sizes_in, has_file, find_of, found_size, valid_of}
 use Rattle.files.specs.Files.{unused_of, entry, record_bytes, appended, deleted_at, deleted, purged, stored_byte}
 use Rattle.files.specs.Moves.{files_closed, records_closed, closed}
@@ -192,9 +192,9 @@ closed_bytes s p n end start next top b =
     let a = bytes_paste s start (drop next s) (top - next) b (bytes_drop next s b) in
     bytes_paste _ (end - n) (replicate n 0) n (bytes_paste _ p _ (end - (p + n)) a (bytes_drop (p + n) _ a)) (bytes_zeros n)
 
-deleted_at_lem : (t : Found) (end used : ℕ) (s : List ℕ) → Bytes s → Bytes (deleted_at t end used s)
-deleted_at_lem (At p a z) end used s b = closed_bytes s p (length_of (get_or s p 0)) end a (a + z) (256 + used) b
-deleted_at_lem Nothing end used s b = b
+deleted_at_lem : (t : Option Location) (end used : ℕ) (s : List ℕ) → Bytes s → Bytes (deleted_at t end used s)
+deleted_at_lem (Some f) end used s b = closed_bytes s f.«record» (length_of (get_or s f.«record» 0)) end f.start (f.start + f.size) (256 + used) b
+deleted_at_lem None end used s b = b
 
 deleted_bytes : (s : List ℕ) (k n : ℕ) → Bytes s → Bytes (deleted s k n)
 unfolding deleted

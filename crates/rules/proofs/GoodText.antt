@@ -11,8 +11,8 @@ use Rattle.refusals.specs.Refusals.{Given}
 use Rattle.pixels.specs.Framebuffer.{width}
 use Rattle.pixels.proofs.Tests.{by_test, or_one, or_two}
 use Rattle.pixels.proofs.Painting.{bytes_repaint}
-use Rattle.directory.specs.declared.Found.{Found}
-use Rattle.directory.specs.declared.Found.TheVariants.{At, Nothing}
+use Rattle.std.specs.Prelude.{Option, Some, None}
+use Rattle.directory.specs.declared.Location.{Location}
 use Rattle.directory.specs.Directory.{find_of}
 use Rattle.fonts.specs.Fonts.{is_font}
 use Rattle.opened_font.specs.Glyphs.{glyph_of}
@@ -52,10 +52,10 @@ abbrev Numbered : Opened → Type 0
 Numbered (opened f) = Unit {0}
 Numbered (shut r) = Given r
 
-found_numbered : (h : ℕ) (t : Found) (s : List ℕ) → Numbered (opened_at h t s)
+found_numbered : (h : ℕ) (t : Option Location) (s : List ℕ) → Numbered (opened_at h t s)
 unfolding opened_at
-found_numbered h Nothing s = omega arith
-found_numbered h (At p a z) s = by_test Numbered (is_font h (take z (drop a s))) _ _ (λ _. tt) (λ _. omega arith)
+found_numbered h None s = omega arith
+found_numbered h (Some f) s = by_test Numbered (is_font h (take f.size (drop f.start s))) _ _ (λ _. tt) (λ _. omega arith)
 
 font_numbered : (h : ℕ) (s : List ℕ) (i : ℕ) → Numbered (open_font h s i)
 unfolding open_font

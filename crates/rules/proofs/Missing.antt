@@ -14,7 +14,7 @@ use Rattle.scroll.specs.Scroll.{scrolled}
 use Rattle.scroll.proofs.Footprint.{scroll_footprint}
 use Rattle.refusals.specs.Refusals.{no_glyph, glyph_does_not_fit, Given}
 use Rattle.fonts.specs.Fonts.{nominal_width, height_of, first_of, last_of}
-use Rattle.opened_font.specs.declared.Glyph.TheVariants.{Missing}
+use Rattle.std.specs.Prelude.{None}
 use Rattle.opened_font.specs.Glyphs.{glyph_of}
 use Rattle.opened_font.proofs.Laws.{glyph_missing}
 use Rattle.bar_ledger.specs.Ledger.{quiet, painted}
@@ -62,14 +62,14 @@ pub record Boxed (w : World) (c : ℕ) (f : List ℕ) (x y up : ℕ) : Type 0 wh
   pub touches : event w (byte c) ≡ painted (cond (eqb up 0) (nominal_box f x y) everywhere)
 
 module _ (w : World) (c : ℕ) (f : List ℕ) (l : Lacking w c f) where
-  no_glyph_lem : glyph_of f c ≡ Missing
+  no_glyph_lem : glyph_of f c ≡ None
   no_glyph_lem = glyph_missing f c l.lacks
 
-  alone_is : alone w c ≡ drawn_on w (drawn_by f c Missing)
+  alone_is : alone w c ≡ drawn_on w (drawn_by f c None)
   unfolding alone character character_in
   alone_is = rw (l.no_prefix, l.font, no_glyph_lem)
 
-  comes_to : outcome w (byte c) ≡ drawn_on w (drawn_by f c Missing)
+  comes_to : outcome w (byte c) ≡ drawn_on w (drawn_by f c None)
   unfolding by_phase
   comes_to = ap (λ (p : Phase). by_phase p w c) l.idle ∙ alone_is
 

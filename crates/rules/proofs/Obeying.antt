@@ -3,7 +3,7 @@
 use mathlib.Core.Path.{◌≡◌, refl}
 use mathlib.Core.Bool.{Bool, true, false, cond}
 use mathlib.Core.List.{List, []}
-use Prim.Native.Nat.{ℕ, ◌-◌, ◌<◌}
+use Prim.Native.Nat.{ℕ, ◌<◌}
 use native.Mathlib.Decide.{ℕ_discrete}
 use lib.Dec.{eqb}
 use lib.ListN.{length, get_or, set, length-set}
@@ -16,7 +16,6 @@ use Rattle.bar_graph.specs.declared.Bar.{Bar}
 use Rattle.bar_graph.specs.Bars.{write_of, written_bar}
 use Rattle.bar_ledger.specs.Ledger.{Event, quiet, set_up, wrote, painted}
 use Rattle.bar_ledger.proofs.Keep.{Obeys, bar_by}
-use Rattle.opened_font.specs.declared.Glyph.TheVariants
 use Rattle.state.specs.declared.BarSlot.{BarSlot}
 use Rattle.state.specs.State.{no_bar, bar_slot, bar_at, with_bars}
 use Rattle.rules.specs.World.{World, port, panel, with_framebuffer, with_panel, Outcome, done, refused, refuse_if}

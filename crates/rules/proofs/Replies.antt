@@ -10,8 +10,8 @@ use lib.Dec.{eqb, leb, ltb}
 use lib.ListN.{length, take, drop, length-append}
 use borrow.Author.Tests.{ltb-false}
 use Rattle.pixels.proofs.Tests.{by_test}
-use Rattle.directory.specs.declared.Found.{Found}
-use Rattle.directory.specs.declared.Found.TheVariants.{At, Nothing}
+use Rattle.std.specs.Prelude.{Option, Some, None}
+use Rattle.directory.specs.declared.Location.{Location}
 use Rattle.directory.specs.Directory.{find_of, entries, bytes_in, has_file}
 use Rattle.files.specs.Files.{unused_of}
 use Rattle.bitmap.specs.Bitmaps.{packed_box}
@@ -97,11 +97,11 @@ place_brief w x y (opened f) =
 
 -- ---- commands
 
-bitmap_brief : (w : World) (f : Found) (x y : ℕ) → Brief (bitmap_at w f x y)
+bitmap_brief : (w : World) (f : Option Location) (x y : ℕ) → Brief (bitmap_at w f x y)
 unfolding bitmap_at bitmap_in
-bitmap_brief w Nothing x y = mute _
-bitmap_brief w (At p a z) x y =
-    let f = take z (drop a w.store) in
+bitmap_brief w None x y = mute _
+bitmap_brief w (Some t) x y =
+    let f = take t.size (drop t.start w.store) in
     brief_if (not (is_bitmap f)) 23 _ (silent (with_framebuffer w (packed_box x y (bitmap_width f) (bitmap_height f) (drop 2 f) w.framebuffer)))
 
 upload_brief : (w : World) (k n z : ℕ) → Brief (begin_upload w k n z)

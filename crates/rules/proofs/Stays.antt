@@ -11,8 +11,8 @@ use lib.Dec.{eqb, leb, ltb}
 use lib.ListN.{take, drop}
 use borrow.Author.Tests.{ltb-true, ltb-false, lt-ltb, not-false}
 use Rattle.pixels.proofs.Tests.{by_test}
-use Rattle.directory.specs.declared.Found.{Found}
-use Rattle.directory.specs.declared.Found.TheVariants.{At, Nothing}
+use Rattle.std.specs.Prelude.{Option, Some, None}
+use Rattle.directory.specs.declared.Location.{Location}
 use Rattle.directory.specs.Directory.{find_of, entries, bytes_in, has_file}
 use Rattle.files.specs.Files.{unused_of}
 use Rattle.opened_font.specs.Glyphs.{glyph_of}
@@ -116,10 +116,10 @@ module _ {m : ℕ} (w : World) (good-store : StoreGood m (used w) w.store) (k n 
   unfolding character
   character_stays c = in_font c (open_font (height w) w.store (port w).text.font)
 
-  bitmap_at_lem : (t : Found) (x y : ℕ) → Keeps (bitmap_at w t x y)
+  bitmap_at_lem : (t : Option Location) (x y : ℕ) → Keeps (bitmap_at w t x y)
   unfolding bitmap_at bitmap_in
-  bitmap_at_lem Nothing x y = tt
-  bitmap_at_lem (At q a z) x y = unless (not (is_bitmap (take z (drop a w.store)))) 23 _ (λ _. same)
+  bitmap_at_lem None x y = tt
+  bitmap_at_lem (Some f) x y = unless (not (is_bitmap (take f.size (drop f.start w.store)))) 23 _ (λ _. same)
 
   -- ---- files
 

@@ -1,11 +1,10 @@
 -- What each input means for bars: its footprint, a bar set up, or a bar written. A refusal means nothing, and time does not.
 -- Assumes nothing.
-use Rattle.std.specs.Prelude.{List, [], cond, ℕ, ◌+◌, ◌%◌, eqb, ltb, take, drop}
+use Rattle.std.specs.Prelude.{Option, Some, None, List, [], cond, ℕ, ◌+◌, ◌%◌, eqb, ltb, take, drop}
 use Rattle.pixels.specs.Regions.{point, box, rectangle, everywhere}
 use Rattle.line.specs.Line.{line}
 use Rattle.rectangle.specs.Frame.{frame}
-use Rattle.directory.specs.declared.Found.{Found}
-use Rattle.directory.specs.declared.Found.TheVariants.{At, Nothing}
+use Rattle.directory.specs.declared.Location.{Location}
 use Rattle.directory.specs.Directory.{find_of}
 use Rattle.fonts.specs.Bitmaps.{bitmap_width, bitmap_height}
 use Rattle.opened_font.specs.Glyphs.{glyph_of}
@@ -45,10 +44,10 @@ character_event w c = font_event w c (open_font (height w) w.store (port w).text
 
 -- ---- commands
 
-abbrev pub bitmap_event : List ℕ → Found → ℕ → ℕ → Event
-bitmap_event s Nothing x y = quiet
-bitmap_event s (At position start size) x y =
-    painted (box x (x + bitmap_width (take size (drop start s))) y (y + bitmap_height (take size (drop start s))))
+abbrev pub bitmap_event : List ℕ → Option Location → ℕ → ℕ → Event
+bitmap_event s None x y = quiet
+bitmap_event s (Some f) x y =
+    painted (box x (x + bitmap_width (take f.size (drop f.start s))) y (y + bitmap_height (take f.size (drop f.start s))))
 
 -- clear: everything. Pixel, line, frame: their pixels. Solid, strip: the rectangle. Saved bitmap: its box. Data in line: its rectangle, at the last corner too
 unfoldable pub meaning : Command → List ℕ → World → Event

@@ -1,9 +1,8 @@
 -- Files: upload, delete, purge. The state keeps how much of the file area is used: where a byte goes and how much room there is are told from that, and what changes
 -- the directory changes it too.
 -- Assumes nothing.
-use Rattle.std.specs.Prelude.{List, [], ◌∷◌, Bool, true, false, cond, not, ◌&&◌, ◌||◌, ℕ, ◌+◌, ◌-◌, ◌%◌, eqb, leb, ltb}
+use Rattle.std.specs.Prelude.{None, List, [], ◌∷◌, Bool, true, false, cond, not, ◌&&◌, ◌||◌, ℕ, ◌+◌, ◌-◌, ◌%◌, eqb, leb, ltb}
 use Rattle.refusals.specs.Refusals.{number_out_of_range, unknown_type, no_space, number_in_use, upload_aborted}
-use Rattle.directory.specs.declared.Found.TheVariants.{Nothing}
 use Rattle.directory.specs.Directory.{length_of, entries, bytes_in, has_file, find_of, found_number, found_size, max_records}
 use Rattle.files.specs.Files.{unused_of, entry, appended, deleted, purged, stored_byte}
 use Rattle.state.specs.declared.Phase.TheVariants.{Idle, Upload}
@@ -69,7 +68,7 @@ unfoldable pub delete_file : World → ℕ → ℕ → Outcome
 delete_file w type number =
     refuse_if (leb 2 type) unknown_type
     (refuse_if (too_high number) number_out_of_range
-    (refuse_if (not (has_file (entries w.store) (type + 1) number)) (found_number Nothing)
+    (refuse_if (not (has_file (entries w.store) (type + 1) number)) (found_number None)
     (quietly
     (unchosen (with_used (with_store w (deleted w.store (type + 1) number)) (used w - found_size (find_of w.store (type + 1) number))) (type + 1) number))))
 

@@ -1,12 +1,10 @@
 -- Saved bitmaps, and data in line.
 -- Assumes nothing.
-use Rattle.std.specs.Prelude.{List, [], cond, not, ℕ, ◌+◌, ltb, take, drop}
+use Rattle.std.specs.Prelude.{Option, Some, None, List, [], cond, not, ℕ, ◌+◌, ltb, take, drop}
 use Rattle.refusals.specs.Refusals.{corners_out_of_order, number_out_of_range}
-use Rattle.directory.specs.declared.Found.{Found}
-use Rattle.directory.specs.declared.Found.TheVariants.{At, Nothing}
+use Rattle.directory.specs.declared.Location.{Location}
 use Rattle.directory.specs.Directory.{find_of, found_number}
-use Rattle.fonts.specs.declared.Check.TheVariants.{Malformed}
-use Rattle.fonts.specs.Checks.{check_number}
+use Rattle.fonts.specs.Checks.{malformed, check_number}
 use Rattle.fonts.specs.Bitmaps.{bitmap_width, bitmap_height, is_bitmap}
 use Rattle.bitmap.specs.Bitmaps.{packed_box, inline_byte}
 use Rattle.state.specs.declared.Phase.{Phase}
@@ -23,12 +21,12 @@ in_phase w p = with_port w (with_phase (port w) p no_args)
 -- 23
 unfoldable pub bitmap_in : World → List ℕ → ℕ → ℕ → Outcome
 bitmap_in w f x y =
-    refuse_if (not (is_bitmap f)) (check_number Malformed) (quietly (with_framebuffer w (packed_box x y (bitmap_width f) (bitmap_height f) (drop 2 f) w.framebuffer)))
+    refuse_if (not (is_bitmap f)) (check_number malformed) (quietly (with_framebuffer w (packed_box x y (bitmap_width f) (bitmap_height f) (drop 2 f) w.framebuffer)))
 
 -- 22
-unfoldable pub bitmap_at : World → Found → ℕ → ℕ → Outcome
-bitmap_at w Nothing x y = refused (found_number Nothing) []
-bitmap_at w (At position start size) x y = bitmap_in w (take size (drop start w.store)) x y
+unfoldable pub bitmap_at : World → Option Location → ℕ → ℕ → Outcome
+bitmap_at w None x y = refused (found_number None) []
+bitmap_at w (Some f) x y = bitmap_in w (take f.size (drop f.start w.store)) x y
 
 -- 19
 unfoldable pub show_bitmap : World → ℕ → ℕ → ℕ → Outcome

@@ -1,8 +1,7 @@
 -- One input, a byte or time: what it comes to in each phase, the next world, and the bytes sent.
 -- Assumes nothing.
-use Rattle.std.specs.Prelude.{List, [], Bool, true, false, cond, not, ◌&&◌, ℕ, ◌+◌, ◌%◌, eqb, ltb, set}
+use Rattle.std.specs.Prelude.{None, List, [], Bool, true, false, cond, not, ◌&&◌, ℕ, ◌+◌, ◌%◌, eqb, ltb, set}
 use Rattle.refusals.specs.Refusals.{unknown_command, number_out_of_range}
-use Rattle.directory.specs.declared.Found.TheVariants.{Nothing}
 use Rattle.directory.specs.Directory.{entries, has_file, found_number}
 use Rattle.state.specs.declared.Command.{Command}
 use Rattle.state.specs.declared.Command.TheVariants.{Unknown, Clear, Home, SetPoint, SetPlace, WrapOn, WrapOff, ScrollOn, ScrollOff, ChooseFont, SetMetrics, SetColour, DrawPixel, DrawLine, ContinueLine, DrawFrame, FillRectangle, SetUpBar, WriteBar, SetUpStrip, ShiftStrip, ShowBitmap, DrawInline, UploadFont, UploadBitmap, DeleteFile, Purge, FlowOn, FlowOff, SetContrast, BacklightOn, BacklightOff, SetSerial}
@@ -80,7 +79,7 @@ no_bitmap w code got b = is_bitmap_due w code got && not (has_file (entries w.st
 unfoldable pub argument : World → ℕ → ℕ → ℕ → Outcome
 argument w code got b =
     refuse_if (high_bitmap w code got b) number_out_of_range
-    (refuse_if (no_bitmap w code got b) (found_number Nothing)
+    (refuse_if (no_bitmap w code got b) (found_number None)
     (cond (ltb (got + 1) (arguments_of (edition w) (command_of code))) (quietly (with_port w (with_phase (port w) (Gathering code (got + 1)) (gathered w got b))))
     (obey (command_of code) (gathered w got b) (outside w))))
 

@@ -1,6 +1,6 @@
 -- Text: the text point, the current font and its metrics, and characters.
 -- Assumes nothing.
-use Rattle.std.specs.Prelude.{List, [], Bool, true, cond, not, ◌&&◌, ◌||◌, ℕ, ◌+◌, ◌-◌, ◌*◌, eqb, leb, drop}
+use Rattle.std.specs.Prelude.{Option, Some, None, List, [], Bool, true, cond, not, ◌&&◌, ◌||◌, ℕ, ◌+◌, ◌-◌, ◌*◌, eqb, leb, drop}
 use Rattle.refusals.specs.Refusals.{out_of_bounds, number_out_of_range, glyph_does_not_fit, accepted}
 use Rattle.pixels.specs.Framebuffer.{Picture, width, put, plain}
 use Rattle.pixels.specs.Regions.{box}
@@ -8,7 +8,6 @@ use Rattle.bitmap.specs.Bitmaps.{packed}
 use Rattle.scroll.specs.Scroll.{scrolled}
 use Rattle.fonts.specs.Fonts.{nominal_width, height_of}
 use Rattle.opened_font.specs.declared.Glyph.{Glyph}
-use Rattle.opened_font.specs.declared.Glyph.TheVariants.{At, Missing}
 use Rattle.opened_font.specs.Glyphs.{glyph_of}
 use Rattle.state.specs.declared.Text.{Text}
 use Rattle.rules.specs.World.{World, height, port, with_framebuffer, put_text, Outcome, quietly, refused, refuse_if, arg}
@@ -119,9 +118,9 @@ unfoldable pub missing : ℕ → ℕ → ℕ → Drawn
 missing c wide tall = cond (is_ignored c) ignored (drawn solid wide tall)
 
 -- a character c of a font's file, by its glyph
-unfoldable pub drawn_by : List ℕ → ℕ → Glyph → Drawn
-drawn_by f c (At offset wide tall) = drawn (rows (drop offset f)) wide tall
-drawn_by f c Missing = missing c (nominal_width f) (height_of f)
+unfoldable pub drawn_by : List ℕ → ℕ → Option Glyph → Drawn
+drawn_by f c (Some g) = drawn (rows (drop g.offset f)) g.width g.height
+drawn_by f c None = missing c (nominal_width f) (height_of f)
 
 -- the box is painted, and x grows by width and character space: 29
 unfoldable pub drawn_at : World → Ink → ℕ → ℕ → Place → Outcome

@@ -7,11 +7,11 @@ use Prim.Native.Nat.{ℕ, ◌+◌, ◌-◌, ◌*◌, ◌/◌, ◌%◌, ◌<◌, 
 use native.Mathlib.Omega.{arith}
 use native.Mathlib.Decide.{dec_lt, ℕ_discrete}
 use lib.Dec.{ltb}
-use lib.ListN.{length, get_or, set, replicate, length-set, length-replicate, get_or-replicate, get_or-eq_default}
+use lib.ListN.{length, get_or, set, length-set, replicate, length-replicate, get_or-replicate, get_or-eq_default}
 use lib.Seq.{get_or-set_same, get_or-set_other, ext_get_or}
 use borrow.Author.Tests.{lt-ltb, le-ltb}
 use borrow.Rule.Slice.PartMut.{put_mid, mid_of, same_len_mid, mid_len}
-use Rattle.pixels.specs.Framebuffer.{digit, bit_of, byte_of, pixel, picture, repaint, fill, plain, cell}
+use Rattle.pixels.specs.Framebuffer.{digit, bit_of, byte_of, pixel, picture, repaint, fill, plain}
 use Rattle.pixels.specs.Regions.{everywhere}
 use Rattle.pixels.proofs.Bits.{bit_zero}
 use Rattle.pixels.proofs.Pictures.{Bytes, length-picture, get_or-picture, pixel_behind}
@@ -21,34 +21,6 @@ use Rattle.pixels.proofs.Rows.{get_or-back, bytes_back}
 use Rattle.scroll.specs.Scroll.{raised, scrolled, Moved}
 
 -- ---- clear
-
--- white up to byte i
-pub record Cleared (i : ℕ) (g₀ g : List ℕ) : Type 0 where
-  pub high : i ≤ length g₀
-  pub long : length g ≡ length g₀
-  pub zeros : (k : ℕ) → k < i → get_or g k 0 ≡ 0
-
-pub cleared_none : (g : List ℕ) → Cleared 0 g g
-cleared_none g = record { high = omega arith; long = refl; zeros = λ k h. absurd (omega arith) }
-
-pub cleared_more : {i : ℕ} {g₀ g : List ℕ} → Cleared i g₀ g → i < length g → Cleared (i + 1) g₀ (set g i 0)
-cleared_more {i} {g₀} {g} s l =
-    record {
-      high = omega (arith, s.long);
-      long = length-set g i 0 ∙ s.long;
-      zeros = λ k h. elim (ℕ_discrete k i) [ yes e ↦ rw (e, get_or-set_same g i 0 0 l) | no n ↦ get_or-set_other g i k 0 0 n ∙ s.zeros k (omega arith) ];
-    }
-
-all_zero_lem : (g : List ℕ) → ((k : ℕ) → k < length g → get_or g k 0 ≡ 0) → (k : ℕ) → get_or g k 0 ≡ 0
-all_zero_lem g z k = elim (dec_lt k (length g)) [ yes h ↦ z k h | no h ↦ get_or-eq_default g 0 {n = k} (omega arith) ]
-
-pub cleared_all : {i : ℕ} {g₀ g : List ℕ} → Cleared i g₀ g → length g ≤ i → g ≡ fill everywhere false g₀
-unfolding pixel
-cleared_all {i} {g₀} {g} s l =
-    is_repaint g (λ x y o. false) g₀ s.long (λ k. rw (zero_at k) (omega arith)) (λ x y on. rw (zero_at (cell x y)) (bit_zero (x % 8)))
-  where
-    zero_at : (k : ℕ) → get_or g k 0 ≡ 0
-    zero_at = all_zero_lem g (λ k h. s.zeros k (omega arith))
 
 -- every byte of it is 0
 cleared_byte : (g : List ℕ) (j : ℕ) → get_or (fill everywhere false g) j 0 ≡ 0

@@ -1,51 +1,37 @@
 // Commands that only set something: flow control, contrast, backlight, serial number.
 #![tactic(auto)]
 
-ghost use Rattle.std.specs.Prelude.{◌≡◌, ◌<◌};
-ghost use Rattle.state.specs.State.{with_flow};
 ghost use Rattle.rules.specs.Settings.{flow_on, flow_off, set_contrast, backlight_on, backlight_off, set_serial};
 ghost use Rattle.outcome.specs.Contract.{unlent, lent, untold, Obeys};
 
 use outcome::{Outcome, done, refused, sending, two_bytes};
 use queue::{Flow, SIZE};
-use refusals::BAD_WATERMARKS;
+use refusals::Refusal;
 use state::Port;
-
-fn wide(x: u8) -> usize
-    ensures { (result ≡ x) × (result < 256) }
-{
-    x as usize
-}
-
-fn with_flow(port: Port, flow: Flow) -> Port
-    ensures { result ≡ with_flow port flow }
-{
-    let mut next = port;
-    next.flow = flow;
-    next
-}
 
 pub fn flow_on(port: Port, full: u8, empty: u8) -> Outcome
     ensures { Obeys untold (λ w. flow_on w full empty) port unlent unlent unlent result }
 {
-    if wide(full) + wide(empty) >= SIZE {
-        return refused(port, BAD_WATERMARKS);
+    if usize::from(full) + usize::from(empty) >= SIZE {
+        return refused(port, Refusal::BadWatermarks);
     }
     let flow = Flow {
         on: true,
-        full: full,
-        empty: empty,
+        full,
+        empty,
     };
-    done(with_flow(port, flow))
+    done(Port { flow, ..port })
 }
 
 // The thresholds stay.
 pub fn flow_off(port: Port) -> Outcome
     ensures { Obeys untold flow_off port unlent unlent unlent result }
 {
-    let mut flow = port.flow;
-    flow.on = false;
-    done(with_flow(port, flow))
+    let flow = Flow {
+        on: false,
+        ..port.flow
+    };
+    done(Port { flow, ..port })
 }
 
 pub fn set_contrast(panel: &mut [u8], port: Port, contrast: u8) -> Outcome

@@ -50,18 +50,6 @@ blend_off g i m b h l = masked_off g i m (cell_bits b) h l
 
 -- ---- the end of a byte
 
-pub end_before : (x x2 : ℕ) → x2 ≤ x → x2 ≡ cell_end x x2
-unfolding cell_end
-end_before x x2 h = omega arith
-
-pub end_first : (x x2 : ℕ) → x < x2 → x2 - x < 8 - x % 8 → x2 ≡ cell_end x x2
-unfolding cell_end
-end_first x x2 h l = omega arith
-
-pub end_of_byte : (x x2 : ℕ) → x < x2 → 8 - x % 8 ≤ x2 - x → x + (8 - x % 8) ≡ cell_end x x2
-unfolding cell_end
-end_of_byte x x2 h l = omega arith
-
 pub end_in_byte : (x x2 e : ℕ) → e ≡ cell_end x x2 → e ≤ 8 * (x / 8) + 8
 unfolding cell_end
 end_in_byte x x2 e h = omega arith

@@ -6,12 +6,9 @@ use Prim.Native.Nat.{ℕ, zero, suc, ◌<◌}
 use native.Mathlib.Omega.{arith}
 use lib.ListN.{get_or, replicate}
 use Rattle.canvas.specs.Sizes.{is_height}
-use Rattle.state.specs.declared.Text.{Text}
-use Rattle.state.specs.declared.Port.{Port}
-use Rattle.state.specs.declared.Panel.{Panel}
 use Rattle.state.specs.declared.Config.{Config}
 use Rattle.state.specs.Editions.{is_edition}
-use Rattle.state.specs.State.{no_bar, no_strip, config, state, start_text, start_port, start_panel, start_state, with_text}
+use Rattle.state.specs.State.{no_bar, no_strip, config, start_port, start_state}
 use Rattle.state.specs.Soundness.{every, sound_phase, sound_text, sound_port, sound_bar, sound_strip, sound_panel, sound_config, sound_state, thresholds_fit}
 use Rattle.state.specs.Canonical.{canonical_phase, canonical_port, canonical_bar, canonical_strip, canonical_serial, canonical_panel, canonical_state}
 use Rattle.state.specs.Fits.{BarFits, StripFits, ConfigFits, Fits}
@@ -61,9 +58,3 @@ start_fits c u f h =
         used = h;
       };
     }
-
-pub port_started : (h : ℕ) (t : Text) → t ≡ start_text h → with_text (start_port h) t ≡ start_port h
-port_started h t e = rw e
-
-pub state_started : (c : Config) (u : ℕ) (p : Port) (q : Panel) → p ≡ start_port c.height → q ≡ start_panel u → state c p q ≡ start_state c u
-state_started c u p q e f = rw (e, f)

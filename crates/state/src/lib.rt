@@ -16,7 +16,7 @@ pub use checks::{
 pub use initial::{start_state, start_text};
 use queue::Flow;
 
-// The editions of the upload protocol.
+// The editions of the upload protocol; numbers and no enum, since `is_edition` is asked of any number and `config_in` (record) reads any byte.
 pub const OLDER: u8 = 1;
 
 pub const NEWER: u8 = 2;
@@ -61,45 +61,54 @@ pub enum Command {
     SetSerial,
 }
 
+impl From<u8> for Command {
+    ghost from_gives = { λ code command. command ≡ command_of code };
+
+    #[tactic(auto, unfolding(crate::specs::Commands::command_of))]
+    fn from(code: u8) -> Command {
+        match code {
+            33 => Command::Purge,
+            36 => Command::UploadFont,
+            49 => Command::ChooseFont,
+            50 => Command::SetMetrics,
+            52 => Command::SetSerial,
+            58 => Command::FlowOn,
+            59 => Command::FlowOff,
+            66 => Command::BacklightOn,
+            67 => Command::WrapOn,
+            68 => Command::WrapOff,
+            70 => Command::BacklightOff,
+            71 => Command::SetPlace,
+            72 => Command::Home,
+            80 => Command::SetContrast,
+            81 => Command::ScrollOn,
+            82 => Command::ScrollOff,
+            88 => Command::Clear,
+            94 => Command::UploadBitmap,
+            98 => Command::ShowBitmap,
+            99 => Command::SetColour,
+            100 => Command::DrawInline,
+            101 => Command::ContinueLine,
+            103 => Command::SetUpBar,
+            105 => Command::WriteBar,
+            106 => Command::SetUpStrip,
+            107 => Command::ShiftStrip,
+            108 => Command::DrawLine,
+            112 => Command::DrawPixel,
+            114 => Command::DrawFrame,
+            120 => Command::FillRectangle,
+            121 => Command::SetPoint,
+            173 => Command::DeleteFile,
+            _ => Command::Unknown,
+        }
+    }
+}
+
 // The command of a code.
 pub fn command_of(code: u8) -> Command
     ensures { result ≡ command_of code }
 {
-    match code {
-        33 => Command::Purge,
-        36 => Command::UploadFont,
-        49 => Command::ChooseFont,
-        50 => Command::SetMetrics,
-        52 => Command::SetSerial,
-        58 => Command::FlowOn,
-        59 => Command::FlowOff,
-        66 => Command::BacklightOn,
-        67 => Command::WrapOn,
-        68 => Command::WrapOff,
-        70 => Command::BacklightOff,
-        71 => Command::SetPlace,
-        72 => Command::Home,
-        80 => Command::SetContrast,
-        81 => Command::ScrollOn,
-        82 => Command::ScrollOff,
-        88 => Command::Clear,
-        94 => Command::UploadBitmap,
-        98 => Command::ShowBitmap,
-        99 => Command::SetColour,
-        100 => Command::DrawInline,
-        101 => Command::ContinueLine,
-        103 => Command::SetUpBar,
-        105 => Command::WriteBar,
-        106 => Command::SetUpStrip,
-        107 => Command::ShiftStrip,
-        108 => Command::DrawLine,
-        112 => Command::DrawPixel,
-        114 => Command::DrawFrame,
-        120 => Command::FillRectangle,
-        121 => Command::SetPoint,
-        173 => Command::DeleteFile,
-        _ => Command::Unknown,
-    }
+    Command::from(code)
 }
 
 // How many fixed arguments a command has in each edition.
@@ -113,39 +122,33 @@ fn counts_of(command: Command) -> Counts
     ensures { result ≡ (row_of command).counts }
 {
     match command {
-        Command::Unknown => Counts { older: 0, newer: 0 },
-        Command::Clear => Counts { older: 0, newer: 0 },
-        Command::Home => Counts { older: 0, newer: 0 },
-        Command::SetPoint => Counts { older: 2, newer: 2 },
-        Command::SetPlace => Counts { older: 2, newer: 2 },
-        Command::WrapOn => Counts { older: 0, newer: 0 },
-        Command::WrapOff => Counts { older: 0, newer: 0 },
-        Command::ScrollOn => Counts { older: 0, newer: 0 },
-        Command::ScrollOff => Counts { older: 0, newer: 0 },
+        Command::Unknown
+        | Command::Clear
+        | Command::Home
+        | Command::WrapOn
+        | Command::WrapOff
+        | Command::ScrollOn
+        | Command::ScrollOff
+        | Command::FlowOff
+        | Command::BacklightOff => Counts { older: 0, newer: 0 },
+        Command::SetColour | Command::ShiftStrip | Command::SetContrast | Command::BacklightOn =>
+            Counts { older: 1, newer: 1 },
         Command::ChooseFont => Counts { older: 1, newer: 2 },
-        Command::SetMetrics => Counts { older: 5, newer: 5 },
-        Command::SetColour => Counts { older: 1, newer: 1 },
-        Command::DrawPixel => Counts { older: 2, newer: 2 },
-        Command::DrawLine => Counts { older: 4, newer: 4 },
-        Command::ContinueLine => Counts { older: 2, newer: 2 },
-        Command::DrawFrame => Counts { older: 5, newer: 5 },
-        Command::FillRectangle => Counts { older: 5, newer: 5 },
-        Command::SetUpBar => Counts { older: 6, newer: 6 },
-        Command::WriteBar => Counts { older: 2, newer: 2 },
-        Command::SetUpStrip => Counts { older: 5, newer: 5 },
-        Command::ShiftStrip => Counts { older: 1, newer: 1 },
-        Command::ShowBitmap => Counts { older: 3, newer: 4 },
-        Command::DrawInline => Counts { older: 4, newer: 4 },
-        Command::UploadFont => Counts { older: 3, newer: 6 },
-        Command::UploadBitmap => Counts { older: 3, newer: 6 },
+        Command::SetPoint
+        | Command::SetPlace
+        | Command::DrawPixel
+        | Command::ContinueLine
+        | Command::WriteBar
+        | Command::Purge
+        | Command::FlowOn
+        | Command::SetSerial => Counts { older: 2, newer: 2 },
         Command::DeleteFile => Counts { older: 2, newer: 3 },
-        Command::Purge => Counts { older: 2, newer: 2 },
-        Command::FlowOn => Counts { older: 2, newer: 2 },
-        Command::FlowOff => Counts { older: 0, newer: 0 },
-        Command::SetContrast => Counts { older: 1, newer: 1 },
-        Command::BacklightOn => Counts { older: 1, newer: 1 },
-        Command::BacklightOff => Counts { older: 0, newer: 0 },
-        Command::SetSerial => Counts { older: 2, newer: 2 },
+        Command::ShowBitmap => Counts { older: 3, newer: 4 },
+        Command::UploadFont | Command::UploadBitmap => Counts { older: 3, newer: 6 },
+        Command::DrawLine | Command::DrawInline => Counts { older: 4, newer: 4 },
+        Command::SetMetrics | Command::DrawFrame | Command::FillRectangle | Command::SetUpStrip =>
+            Counts { older: 5, newer: 5 },
+        Command::SetUpBar => Counts { older: 6, newer: 6 },
     }
 }
 
@@ -179,7 +182,7 @@ pub enum Phase {
         done: u16,
     },
     // A file of `size` bytes, `stored` of them confirmed; `waiting` where `byte` was echoed and is not confirmed yet. So many milliseconds have passed since its
-    // start or its last byte.
+    // start or its last byte. The sort is no enum, and a byte that waits no Option: `decode_of` (record, specs Reading) reads any bytes of both.
     Upload {
         sort: u8,
         number: u16,
@@ -216,19 +219,21 @@ pub struct Drawing {
     pub y: u8,
 }
 
+// The last refusal by its number: `decode_of` (record, specs Reading) reads any byte.
 #[derive(Clone, Copy)]
 pub struct Refusals {
     pub count: u16,
     pub last: u8,
 }
 
-// What the line is in the middle of, with the arguments gathered so far.
+// What the line is in the middle of, with the arguments gathered so far: six bytes however many they are, as `decode_of` (record, specs Reading) reads them.
 #[derive(Clone, Copy)]
 pub struct Line {
     pub phase: Phase,
     pub args: [u8; ARGUMENTS],
 }
 
+// Flow control that is off keeps its thresholds: `flow_off` (rules, specs Settings).
 #[derive(Clone, Copy)]
 pub struct Port {
     pub line: Line,
@@ -242,13 +247,14 @@ pub const BARS: usize = 16;
 
 pub const STRIPS: usize = 8;
 
-// `on` where it is set up.
+// `on` where it is set up. No Option: `bar_at` of `panel` and `decode_of` (record, specs Reading) say what stands in an off slot too, which may be any bytes.
 #[derive(Clone, Copy)]
 pub struct BarSlot {
     pub on: bool,
     pub bar: Bar,
 }
 
+// No Option: `strip_at` of `panel` and `decode_of` (record, specs Reading) say the corners of an off strip too, which may be any bytes.
 #[derive(Clone, Copy)]
 pub struct Strip {
     pub on: bool,
@@ -258,6 +264,7 @@ pub struct Strip {
     pub y2: u8,
 }
 
+// No Option: `serial_in` of `panel` and `decode_of` (record, specs Reading) say both numbers while none is stored too, which may be any bytes.
 #[derive(Clone, Copy)]
 pub struct Serial {
     pub on: bool,
@@ -265,6 +272,7 @@ pub struct Serial {
     pub b: u8,
 }
 
+// No Option: `clear_backlight` of `panel` keeps the minutes while it is off, and so does `backlight_off` (rules, specs Settings).
 #[derive(Clone, Copy)]
 pub struct Backlight {
     pub on: bool,

@@ -1,118 +1,41 @@
 -- The rules of these commands, each way by itself.
 -- Assumes nothing.
-use Rattle.std.proofs.Common.{◌≡◌, ℕ, ◌+◌, ◌-◌, ◌%◌, ◌<◌, ◌≤◌, Bool, true, false, cond, not, ◌&&◌, ◌||◌, eqb, ltb, leb, List, [], ◌∷◌, sym, refl, ap, ◌∙◌, arith, le-ltb, lt-ltb, eq-eqb, ne_eqb, le-leb}
+use Rattle.std.proofs.Common.{◌≡◌, ℕ, ◌+◌, ◌-◌, ◌%◌, ◌<◌, ◌≤◌, Bool, true, false, cond, not, ◌||◌, List, [], ◌∷◌, sym, refl, ap, ◌∙◌, le-ltb, lt-ltb, eq-eqb, ne_eqb, le-leb}
+use mathlib.Core.Logic.{◌⊎◌, inl, inr}
 use borrow.Author.Tests.{not-true, not-false, lt-leb}
 use Rattle.directory.specs.declared.Entry.{Entry}
 use Rattle.directory.specs.declared.Totals.{Totals}
-use Rattle.directory.specs.declared.Found.{Found}
-use Rattle.directory.specs.declared.Found.TheVariants.{At, Nothing}
-use Rattle.directory.specs.Directory.{max_number, max_records, length_of, entries, bytes_in, totals_of, is_file, has_file, find_in, find_of, found_size}
-use Rattle.files.specs.Files.{unused_of, entry, appended, is_there, deleted, purged, stored_byte}
+use Rattle.std.specs.Prelude.{Option, Some, None, is_some}
+use Rattle.directory.specs.declared.Location.{Location}
+use Rattle.directory.specs.Directory.{max_number, length_of, entries, bytes_in, totals_of, is_file, has_file, find_in, find_of, found_size}
+use Rattle.directory.proofs.Laws.{located}
+use Rattle.files.specs.Files.{unused_of, entry, appended, deleted, purged, stored_byte}
 use Rattle.state.specs.declared.Phase.TheVariants.{Idle, Upload}
-use Rattle.state.specs.declared.Port.{Port}
 use Rattle.state.specs.declared.State.{State}
-use Rattle.state.specs.Editions.{newer, patience}
+use Rattle.state.specs.Editions.{patience}
 use Rattle.state.specs.State.{state, start_text, with_used}
-use Rattle.record.specs.Reading.{panel_of}
-use Rattle.panel.specs.Revised.{revised}
 use Rattle.rules.specs.World.{world, put_text, done, quietly, refused}
 use Rattle.rules.specs.Pictures.{in_phase}
 use Rattle.rules.specs.Text.{with_font}
 use Rattle.rules.specs.Files.{in_use, kind_of, lacks_space, begin_upload, upload_data, upload_waits, delete_file, purge}
-use Rattle.rules.specs.Sound.{highest}
 use Rattle.rules.proofs.GoodStore.{room}
-use Rattle.outcome.specs.declared.Outcome.{Outcome}
-use Rattle.outcome.specs.declared.Reply.{Reply}
-use Rattle.outcome.specs.Outcome.{refused_port, sending_of, one_byte}
-use Rattle.storage.specs.Storage.{telling_of}
 
 -- ---- the tests
 
-there_or : (t : Bool) (f : Found) (b : Bool) (p a z : ℕ) → is_there f ≡ b → is_there (cond t (At p a z) f) ≡ (t || b)
-there_or true f b p a z e = refl
-there_or false f b p a z e = e
+there_or : (t : Bool) (f : Option Location) (b : Bool) (x : Location) → is_some f ≡ b → is_some (cond t (Some x) f) ≡ (t || b)
+there_or true f b x e = refl
+there_or false f b x e = e
 
-found_has : (es : List Entry) (p a k n : ℕ) → is_there (find_in es p a k n) ≡ has_file es k n
+found_has : (es : List Entry) (p a k n : ℕ) → is_some (find_in es p a k n) ≡ has_file es k n
 unfolding find_in has_file
 found_has [] p a k n = refl
 found_has (e ∷ es) p a k n =
-    there_or (is_file e k n) (find_in es (p + length_of e.kind) (a + e.size) k n) (has_file es k n) p a e.size (found_has es (p + length_of e.kind) (a + e.size) k n)
+    there_or (is_file e k n) (find_in es (p + length_of e.kind) (a + e.size) k n) (has_file es k n) (located p a e.size) (found_has es (p + length_of e.kind) (a + e.size) k n)
 
-pub stored_not : (s : List ℕ) (k n : ℕ) (f : Found) → f ≡ find_of s k n → f ≡ Nothing → false ≡ has_file (entries s) k n
-stored_not s k n f e h = sym (ap is_there h) ∙ ap is_there e ∙ found_has (entries s) 0 256 k n
-
-pub stored_yes : (s : List ℕ) (k n p a z : ℕ) (f : Found) → f ≡ find_of s k n → f ≡ At p a z → true ≡ has_file (entries s) k n
-stored_yes s k n p a z f e h = sym (ap is_there h) ∙ ap is_there e ∙ found_has (entries s) 0 256 k n
-
-pub built_in_used : (s : List ℕ) (k n : ℕ) → k ≡ 1 → n ≡ 1 → true ≡ in_use s k n
-built_in_used s k n e f = rw (e, f)
-
--- the tests of a font, where they came out so
-pub record Other (k n : ℕ) : Type 0 where
-  pub differ : (eqb k 1 && eqb n 1) ≡ false
-
-pub other_kind : (k n : ℕ) → (k ≡ 1 → ⊥) → Other k n
-other_kind k n h = record { differ = rw (ne_eqb k 1 h) }
-
-pub other_number : (k n : ℕ) → k ≡ 1 → (n ≡ 1 → ⊥) → Other k n
-other_number k n e h = record { differ = rw (eq-eqb k 1 e, ne_eqb n 1 h) }
-
-pub used_if_stored : (s : List ℕ) (k n : ℕ) (t : Bool) → Other k n → t ≡ has_file (entries s) k n → t ≡ in_use s k n
-used_if_stored s k n t o e = rw o.differ e
-
-pub kind_older : (e k : ℕ) → (e ≡ newer → ⊥) → k ≡ kind_of e k
-kind_older e k h = rw (ne_eqb e newer h)
-
-pub kind_font : (e k : ℕ) → e ≡ newer → k ≡ 1 → 3 ≡ kind_of e k
-kind_font e k h f = rw (eq-eqb e newer h, eq-eqb k 1 f)
-
-pub kind_bitmap : (e k : ℕ) → e ≡ newer → (k ≡ 1 → ⊥) → 4 ≡ kind_of e k
-kind_bitmap e k h f = rw (eq-eqb e newer h, ne_eqb k 1 f)
-
-pub highest_newer : (e : ℕ) → e ≡ newer → max_number ≡ highest e
-highest_newer e h = rw (eq-eqb e newer h)
-
-pub highest_older : (e : ℕ) → (e ≡ newer → ⊥) → 255 ≡ highest e
-highest_older e h = rw (ne_eqb e newer h)
-
-module _ (e f k z : ℕ) where
-  pub no_size : z ≡ 0 → true ≡ lacks_space e f k z
-  unfolding lacks_space
-  no_size h = rw h
-
-  module _ (n : ℕ) (h : z ≡ 0 → ⊥) (m : n ≡ length_of k) (few : n ≤ 7) where
-    pub no_place : 255 - n < e → true ≡ lacks_space e f k z
-    unfolding lacks_space
-    no_place l = rw (ne_eqb z 0 h, lt-ltb max_records (e + length_of k) (omega (arith, m)))
-
-    module _ (l : e ≤ 255 - n) where
-      pub no_bytes : f < z → true ≡ lacks_space e f k z
-      unfolding lacks_space
-      no_bytes o = rw (ne_eqb z 0 h, le-ltb max_records (e + length_of k) (omega (arith, m)), lt-ltb f z o)
-
-      pub some_bytes : z ≤ f → leb 65536 z ≡ lacks_space e f k z
-      unfolding lacks_space
-      some_bytes o = rw (ne_eqb z 0 h, le-ltb max_records (e + length_of k) (omega (arith, m)), le-ltb f z o)
-
--- records up to byte m, and f bytes unused
-module _ (s : List ℕ) (m f e k n z h : ℕ) (top : h ≡ highest e) where
-  pub away_high : h < n → true ≡ (ltb (highest e) n || in_use s k n || lacks_space m f (kind_of e k) z)
-  away_high l = rw (← top, lt-ltb h n l)
-
-  module _ (l : n ≤ h) (t : Bool) (u : t ≡ in_use s k n) where
-    pub away_used : t ≡ true → true ≡ (ltb (highest e) n || in_use s k n || lacks_space m f (kind_of e k) z)
-    away_used o = rw (← top, le-ltb h n l, ← u, o)
-
-    pub away_room : (a c : ℕ) (v : Bool) → t ≡ false → a ≡ f → c ≡ kind_of e k → v ≡ lacks_space m a c z → v ≡ (ltb (highest e) n || in_use s k n || lacks_space m f (kind_of e k) z)
-    away_room a c v o d q g = g ∙ rw (← top, le-ltb h n l, ← u, o, d, q)
-
-pub telling_is : (pt n : Port) (k : ℕ) (q : Reply) (r : Outcome) → n ≡ refused_port pt k → q ≡ one_byte 8 → r ≡ sending_of n q → r ≡ telling_of pt k
-telling_is pt n k q r e f h = h ∙ rw (e, f)
+pub stored_is : (s : List ℕ) (k n : ℕ) (f : Option Location) (t : Bool) → f ≡ find_of s k n → t ≡ is_some f → t ≡ has_file (entries s) k n
+stored_is s k n f t e h = h ∙ ap is_some e ∙ found_has (entries s) 0 256 k n
 
 -- ---- uploads
-
-pub room_used : (p p' : List ℕ) (v w : ℕ) → v ≡ w → p' ≡ revised p (with_used (panel_of p) v) → p' ≡ revised p (with_used (panel_of p) w)
-room_used p p' v w ev e = e ∙ ap (λ (x : ℕ). revised p (with_used (panel_of p) x)) ev
 
 -- a size that is not refused fits two bytes
 pub size_fits : (e f k z : ℕ) (u : Bool) → u ≡ lacks_space e f k z → u ≡ false → z < 65536
@@ -162,21 +85,17 @@ module _ (g s : List ℕ) (st : State) (k n z : ℕ) where
       unfolding upload_data
       data_last q s'' l o d = rw (not-false v e, eq-eqb b 1 h, le-ltb (i + 1) z l, ← eu, d, f, o)
 
-    -- b milliseconds after c
-    module _ (v : Bool) (d : ℕ) where
-      pub waits_26 : patience ≤ c + b → upload_waits (world g s st) k n z i v d c b ≡ refused 26 (254 ∷ 212 ∷ [])
+    -- b milliseconds after c, at q
+    module _ (v : Bool) (d q : ℕ) (sum : q ≡ c + b) where
+      pub waits_26 : patience ≤ q → upload_waits (world g s st) k n z i v d c b ≡ refused 26 (254 ∷ 212 ∷ [])
       unfolding upload_waits
-      waits_26 l = rw (le-leb patience (c + b) l)
+      waits_26 l = rw (← sum, le-leb patience q l)
 
-      pub waits_on : c + b < patience → upload_waits (world g s st) k n z i v d c b ≡ quietly (in_phase (world g s st) (Upload k n z i v d (c + b)))
+      pub waits_on : q < patience → upload_waits (world g s st) k n z i v d c b ≡ quietly (in_phase (world g s st) (Upload k n z i v d q))
       unfolding upload_waits
-      waits_on l = rw (lt-leb patience (c + b) l)
+      waits_on l = rw (← sum, lt-leb patience q l)
 
 -- ---- delete and purge
-
--- u is used, z of it by the file, and v without it
-pub room_freed : (p p' : List ℕ) (u v z : ℕ) → u ≡ (panel_of p).used → v ≡ u - z → p' ≡ revised p (with_used (panel_of p) v) → p' ≡ revised p (with_used (panel_of p) ((panel_of p).used - z))
-room_freed p p' u v z eu ev = room_used p p' v ((panel_of p).used - z) (ev ∙ ap (λ (x : ℕ). x - z) eu)
 
 module _ (g s : List ℕ) (st : State) (t n : ℕ) where
   pub delete_20 : 2 ≤ t → delete_file (world g s st) t n ≡ refused 20 []
@@ -187,40 +106,35 @@ module _ (g s : List ℕ) (st : State) (t n : ℕ) where
   unfolding delete_file
   delete_19 l m = rw (lt-leb 2 t l, lt-ltb max_number n m)
 
-  module _ (x : Found) (l : t < 2) (m : n ≤ max_number) (e : x ≡ find_of s (t + 1) n) where
-    pub delete_22 : x ≡ Nothing → delete_file (world g s st) t n ≡ refused 22 []
+  module _ (x : Option Location) (l : t < 2) (m : n ≤ max_number) (e : x ≡ find_of s (t + 1) n) where
+    pub delete_22 : x ≡ None → delete_file (world g s st) t n ≡ refused 22 []
     unfolding delete_file
-    delete_22 h = rw (lt-leb 2 t l, le-ltb max_number n m, ← stored_not s (t + 1) n x e h)
+    delete_22 h = rw (lt-leb 2 t l, le-ltb max_number n m, ← stored_is s (t + 1) n x false e (sym (ap is_some h)))
 
-    -- z its size
-    module _ (p a z : ℕ) (s' : List ℕ) (h : x ≡ At p a z) (gone : s' ≡ deleted s (t + 1) n) where
+    -- f where it is
+    module _ (f : Location) (s' : List ℕ) (h : x ≡ Some f) (gone : s' ≡ deleted s (t + 1) n) where
       there : has_file (entries s) (t + 1) n ≡ true
-      there = sym (stored_yes s (t + 1) n p a z x e h)
+      there = sym (stored_is s (t + 1) n x true e (sym (ap is_some h)))
 
-      left : st.panel.used - found_size (find_of s (t + 1) n) ≡ st.panel.used - z
-      left = ap (λ (y : Found). st.panel.used - found_size y) (sym e ∙ h)
+      left : st.panel.used - found_size (find_of s (t + 1) n) ≡ st.panel.used - f.size
+      left = ap (λ (y : Option Location). st.panel.used - found_size y) (sym e ∙ h)
 
       pub delete_chosen : t + 1 ≡ 1 → n ≡ st.port.text.font
-          → delete_file (world g s st) t n ≡ quietly (put_text (world g s' (state st.config st.port (with_used st.panel (st.panel.used - z)))) (with_font st.port.text 1))
+          → delete_file (world g s st) t n ≡ quietly (put_text (world g s' (state st.config st.port (with_used st.panel (st.panel.used - f.size)))) (with_font st.port.text 1))
       unfolding delete_file
-      delete_chosen k f = rw (lt-leb 2 t l, le-ltb max_number n m, there, ← gone, left, eq-eqb (t + 1) 1 k, eq-eqb n st.port.text.font f)
+      delete_chosen k i = rw (lt-leb 2 t l, le-ltb max_number n m, there, ← gone, left, eq-eqb (t + 1) 1 k, eq-eqb n st.port.text.font i)
 
-      pub delete_bitmap : (t + 1 ≡ 1 → ⊥) → delete_file (world g s st) t n ≡ quietly (world g s' (state st.config st.port (with_used st.panel (st.panel.used - z))))
+      pub delete_other : ((t + 1 ≡ 1) × (n ≡ st.port.text.font → ⊥)) ⊎ (t + 1 ≡ 1 → ⊥)
+          → delete_file (world g s st) t n ≡ quietly (world g s' (state st.config st.port (with_used st.panel (st.panel.used - f.size))))
       unfolding delete_file
-      delete_bitmap k = rw (lt-leb 2 t l, le-ltb max_number n m, there, ← gone, left, ne_eqb (t + 1) 1 k)
-
-      pub delete_other : (n ≡ st.port.text.font → ⊥) → t + 1 ≡ 1 → delete_file (world g s st) t n ≡ quietly (world g s' (state st.config st.port (with_used st.panel (st.panel.used - z))))
-      unfolding delete_file
-      delete_other f k = rw (lt-leb 2 t l, le-ltb max_number n m, there, ← gone, left, eq-eqb (t + 1) 1 k, ne_eqb n st.port.text.font f)
+      delete_other (inl (k, d)) = rw (lt-leb 2 t l, le-ltb max_number n m, there, ← gone, left, eq-eqb (t + 1) 1 k, ne_eqb n st.port.text.font d)
+      delete_other (inr k) = rw (lt-leb 2 t l, le-ltb max_number n m, there, ← gone, left, ne_eqb (t + 1) 1 k)
 
 module _ (g s : List ℕ) (st : State) (a b : ℕ) where
-  pub purge_first : (a ≡ 89 → ⊥) → purge (world g s st) a b ≡ refused 20 []
+  pub purge_20 : (a ≡ 89 → ⊥) ⊎ ((a ≡ 89) × (b ≡ 33 → ⊥)) → purge (world g s st) a b ≡ refused 20 []
   unfolding purge
-  purge_first h = rw (ne_eqb a 89 h)
-
-  pub purge_second : a ≡ 89 → (b ≡ 33 → ⊥) → purge (world g s st) a b ≡ refused 20 []
-  unfolding purge
-  purge_second e h = rw (eq-eqb a 89 e, ne_eqb b 33 h)
+  purge_20 (inl h) = rw (ne_eqb a 89 h)
+  purge_20 (inr (e, h)) = rw (eq-eqb a 89 e, ne_eqb b 33 h)
 
   pub purge_done : (s' : List ℕ) → a ≡ 89 → b ≡ 33 → s' ≡ purged s
       → purge (world g s st) a b ≡ quietly (put_text (world g s' (state st.config st.port (with_used st.panel 0))) (start_text st.config.height))

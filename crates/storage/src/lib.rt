@@ -10,19 +10,18 @@ ghost use Rattle.panel.specs.Revised.{revised};
 ghost use Rattle.rules.specs.Files.{in_use, kind_of, lacks_space, begin_upload, upload_data, upload_waits, delete_file, purge};
 ghost use Rattle.rules.specs.Sound.{highest};
 ghost use Rattle.outcome.specs.Contract.{unlent, lent, untold, told, told_edition, Obeys};
+ghost use Rattle.refusals.specs.Refusals.{number_of};
 ghost use Rattle.storage.specs.Storage.{telling_of};
 
 use directory::{
-    BUILT_IN_FONT, FONT, Found, MAX_NUMBER, MAX_RECORDS, NEWER_BITMAP, NEWER_FONT, Totals, find,
+    BUILT_IN_FONT, FONT, MAX_NUMBER, MAX_RECORDS, NEWER_BITMAP, NEWER_FONT, Totals, find,
     record_length, tally,
 };
 use files::{append, delete, store_byte, unused};
 use outcome::{Outcome, done, in_phase, one_byte, put_text, refuse, refused, sending, two_bytes};
 use panel::{set_used, used_in};
-use refusals::{
-    NO_SPACE, NO_SUCH_FILE, NUMBER_IN_USE, NUMBER_OUT_OF_RANGE, UNKNOWN_TYPE, UPLOAD_ABORTED,
-};
-use state::{NEWER, PATIENCE, Phase, Port, start_text};
+use refusals::Refusal;
+use state::{NEWER, PATIENCE, Phase, Port, Text, start_text};
 
 // The replies of the upload's handshake, and the host's confirmation.
 const WELCOME: u8 = 1;
@@ -54,29 +53,14 @@ const PURGE_SECOND: u8 = 33;
 pub fn is_stored(store: &[u8], sort: u8, number: u16) -> bool
     ensures { result ≡ has_file (entries store.now) sort number }
 {
-    let found = find(store, sort, number);
-    let Found::At {
-        record: _,
-        start: _,
-        size: _,
-    } = found
-    else {
-        return false;
-    };
-    true
+    find(store, sort, number).is_some()
 }
 
 // Font 1 always is.
 fn is_in_use(store: &[u8], sort: u8, number: u16) -> bool
     ensures { result ≡ in_use store.now sort number }
 {
-    if sort != FONT {
-        return is_stored(store, sort, number);
-    }
-    if number != BUILT_IN_FONT {
-        return is_stored(store, sort, number);
-    }
-    true
+    (sort == FONT && number == BUILT_IN_FONT) || is_stored(store, sort, number)
 }
 
 // The kind of record that an edition writes for a sort.
@@ -94,19 +78,14 @@ fn kind_of(edition: u8, sort: u8) -> u8
 }
 
 // With records up to byte `end`, and so many bytes unused.
+#[tactic(auto, unfolding(rules::specs::Files::lacks_space))]
 fn lacks_space(end: usize, unused: usize, kind: u8, size: u32) -> bool
     ensures { result ≡ lacks_space end unused kind size }
 {
-    if size == 0 {
-        return true;
-    }
-    if MAX_RECORDS - record_length(kind) < end {
-        return true;
-    }
-    if unused < size as usize {
-        return true;
-    }
-    TOO_LARGE <= size
+    size == 0
+        || MAX_RECORDS - record_length(kind) < end
+        || unused < size as usize
+        || TOO_LARGE <= size
 }
 
 // The highest number of an upload.
@@ -131,21 +110,17 @@ pub fn is_turned_away(
 ) -> bool
     ensures { result ≡ (nat_lt (highest edition) number || in_use store.now sort number || lacks_space totals.end (unused_of store.now totals.used) (kind_of edition sort) size) }
 {
-    if highest(edition) < number {
-        return true;
-    }
-    if is_in_use(store, sort, number) {
-        return true;
-    }
     let free = unused(store, totals.used);
-    lacks_space(totals.end, free, kind_of(edition, sort), size as u32)
+    highest(edition) < number
+        || is_in_use(store, sort, number)
+        || lacks_space(totals.end, free, kind_of(edition, sort), u32::from(size))
 }
 
 // A refusal that is answered.
-fn telling(port: Port, number: u8) -> Outcome
-    ensures { result ≡ telling_of port number }
+fn telling(port: Port, refusal: Refusal) -> Outcome
+    ensures { result ≡ telling_of port (number_of refusal) }
 {
-    sending(refuse(port, number), one_byte(TURNED_AWAY))
+    sending(refuse(port, refusal), one_byte(TURNED_AWAY))
 }
 
 pub fn begin_upload(
@@ -160,21 +135,21 @@ pub fn begin_upload(
     ensures { Obeys (told_edition edition) (λ w. begin_upload w sort number size) port unlent (lent store.now store.now) (lent panel.now panel.now) result }
 {
     if number > MAX_NUMBER {
-        return telling(port, NUMBER_OUT_OF_RANGE);
+        return telling(port, Refusal::NumberOutOfRange);
     }
     if is_in_use(store, sort, number) {
-        return telling(port, NUMBER_IN_USE);
+        return telling(port, Refusal::NumberInUse);
     }
     let end = tally(store).end;
-    let free = unused(store, used_in(panel) as usize);
+    let free = unused(store, usize::from(used_in(panel)));
     if lacks_space(end, free, kind_of(edition, sort), size) {
-        return telling(port, NO_SPACE);
+        return telling(port, Refusal::NoSpace);
     }
     let next = in_phase(
         port,
         Phase::Upload {
-            sort: sort,
-            number: number,
+            sort,
+            number,
             size: size as u16,
             stored: 0,
             waiting: false,
@@ -189,8 +164,8 @@ pub fn begin_upload(
 fn close_upload(store: &mut [u8], panel: &mut [u8], used: u16, kind: u8, number: u16, size: u16)
     ensures { (store.new ≡ appended store.old (entry kind number size)) × (panel.new ≡ revised panel.old (with_used (panel_of panel.old) ((used + size) % 65536))) }
 {
-    append(store, kind, number, size as u32);
-    set_used(panel, std::num::wrapping_add_u16(used, size));
+    append(store, kind, number, u32::from(size));
+    set_used(panel, used.wrapping_add(size));
 }
 
 // A data byte is echoed and waits; confirmed, it is stored at the next free byte, and at the last one the record is written and the file's size is used.
@@ -213,29 +188,29 @@ pub fn upload_data(
         let next = in_phase(
             port,
             Phase::Upload {
-                sort: sort,
-                number: number,
-                size: size,
-                stored: stored,
+                sort,
+                number,
+                size,
+                stored,
                 waiting: true,
-                byte: byte,
+                byte,
                 waited: 0,
             },
         );
         return sending(next, one_byte(byte));
     }
     if byte != CONFIRM {
-        return refused(port, UPLOAD_ABORTED);
+        return refused(port, Refusal::UploadAborted);
     }
     let used = used_in(panel);
     store_byte(store, used, stored, held);
-    if stored as u32 + 1 < size as u32 {
+    if u32::from(stored) + 1 < u32::from(size) {
         let next = in_phase(
             port,
             Phase::Upload {
-                sort: sort,
-                number: number,
-                size: size,
+                sort,
+                number,
+                size,
                 stored: stored + 1,
                 waiting: false,
                 byte: 0,
@@ -262,18 +237,21 @@ pub fn upload_waits(
 ) -> Outcome
     ensures { Obeys untold (λ w. upload_waits w sort number size stored waiting held waited milliseconds) port unlent unlent unlent result }
 {
-    let sum = waited as u64 + milliseconds as u64;
-    if sum >= PATIENCE as u64 {
-        return sending(refuse(port, UPLOAD_ABORTED), two_bytes(PREFIX, TIMED_OUT));
+    let sum = u64::from(waited) + u64::from(milliseconds);
+    if sum >= u64::from(PATIENCE) {
+        return sending(
+            refuse(port, Refusal::UploadAborted),
+            two_bytes(PREFIX, TIMED_OUT),
+        );
     }
     done(in_phase(
         port,
         Phase::Upload {
-            sort: sort,
-            number: number,
-            size: size,
-            stored: stored,
-            waiting: waiting,
+            sort,
+            number,
+            size,
+            stored,
+            waiting,
             byte: held,
             waited: sum as u16,
         },
@@ -284,11 +262,7 @@ pub fn upload_waits(
 fn without(used: u16, size: usize) -> u16
     ensures { result ≡ used - size }
 {
-    if size < used as usize {
-        used - size as u16
-    } else {
-        0
-    }
+    usize::from(used).saturating_sub(size) as u16
 }
 
 // A file of so many bytes taken out, whose room is free again.
@@ -310,31 +284,24 @@ pub fn delete_file(
     ensures { Obeys untold (λ w. delete_file w of_type number) port unlent (lent store.old store.new) (lent panel.old panel.new) result }
 {
     if of_type >= TYPES {
-        return refused(port, UNKNOWN_TYPE);
+        return refused(port, Refusal::UnknownType);
     }
     if number > MAX_NUMBER {
-        return refused(port, NUMBER_OUT_OF_RANGE);
+        return refused(port, Refusal::NumberOutOfRange);
     }
     let sort = of_type + 1;
-    let found = find(store, sort, number);
-    let Found::At {
-        record: _,
-        start: _,
-        size,
-    } = found
-    else {
-        return refused(port, NO_SUCH_FILE);
+    let Some(found) = find(store, sort, number) else {
+        return refused(port, Refusal::NoSuchFile);
     };
-    take_out(store, panel, sort, number, size);
-    if sort != FONT {
-        return done(port);
+    take_out(store, panel, sort, number, found.size);
+    if sort == FONT && number == port.text.font {
+        let text = Text {
+            font: BUILT_IN_FONT,
+            ..port.text
+        };
+        return done(put_text(port, text));
     }
-    let mut text = port.text;
-    if number != text.font {
-        return done(port);
-    }
-    text.font = BUILT_IN_FONT;
-    done(put_text(port, text))
+    done(port)
 }
 
 // Nothing is used, text settings go back to the start, and the text point home.
@@ -348,11 +315,8 @@ pub fn purge(
 ) -> Outcome
     ensures { Obeys (told height) (λ w. purge w first second) port unlent (lent store.old store.new) (lent panel.old panel.new) result }
 {
-    if first != PURGE_FIRST {
-        return refused(port, UNKNOWN_TYPE);
-    }
-    if second != PURGE_SECOND {
-        return refused(port, UNKNOWN_TYPE);
+    if first != PURGE_FIRST || second != PURGE_SECOND {
+        return refused(port, Refusal::UnknownType);
     }
     files::purge(store);
     set_used(panel, 0);

@@ -27,16 +27,16 @@ use Rattle.canvas.proofs.Lent.{lent_whole}
 use Rattle.canvas.proofs.Strokes.{black_right}
 use Rattle.spans.specs.Bits.{packed_bit, window_of, bits_from, cell_end}
 use Rattle.spans.proofs.Cells.{end_within}
-use Rattle.strip_chart.specs.declared.Part.{Part}
+use Rattle.std.specs.declared.ops.Range.{Range}
 use Rattle.strip_chart.specs.Strips.{entering, source, shifted, shifted_strip}
-use Rattle.strip_chart.specs.Walk.{leaving, part_of, beyond, shifted_row, shifted_rows}
+use Rattle.strip_chart.specs.Walk.{part_of, beyond, shifted_row, shifted_rows}
 
 -- the columns that were passed on the way to column x
 unfoldable pub passed : Bool → ℕ → ℕ → ℕ → ℕ → Bool
 passed right x1 x2 x u = cond right (within (x + 1) (x2 + 1) u) (within x1 x u)
 
-passed_none : (right : Bool) (x1 x2 u : ℕ) → passed right x1 x2 (leaving right x1 x2) u ≡ false
-unfolding passed leaving
+passed_none : (right : Bool) (x1 x2 u : ℕ) → passed right x1 x2 (entering (not right) x1 x2) u ≡ false
+unfolding passed entering
 passed_none true x1 x2 u = within_none (x2 + 1) u
 passed_none false x1 x2 u = within_none x1 u
 
@@ -45,8 +45,8 @@ unfolding passed entering
 passed_all true x1 x2 u h = within_less x1 (x2 + 1) u (omega arith)
 passed_all false x1 x2 u h = within_more x1 x2 u h
 
-inside_leaving : (right : Bool) (x1 x2 : ℕ) → x1 ≤ x2 → (x1 ≤ leaving right x1 x2) × (leaving right x1 x2 ≤ x2)
-unfolding leaving
+inside_leaving : (right : Bool) (x1 x2 : ℕ) → x1 ≤ x2 → (x1 ≤ entering (not right) x1 x2) × (entering (not right) x1 x2 ≤ x2)
+unfolding entering
 inside_leaving true x1 x2 h = (h, omega arith)
 inside_leaving false x1 x2 h = (omega arith, h)
 
@@ -56,19 +56,19 @@ inside_leaving false x1 x2 h = (omega arith, h)
 abbrev pub apart : ℕ → ℕ → ℕ
 apart x end = (x - end) + (end - x)
 
-pub record PartIs (right : Bool) (x1 x2 x : ℕ) (p : Part) : Type 0 where
-  pub byte : p.to ≤ 8 * (p.from / 8) + 8
-  pub asks : (p.from < 65535) × (right ≡ true → 0 < p.from)
+pub record PartIs (right : Bool) (x1 x2 x : ℕ) (p : Range ℕ) : Type 0 where
+  pub byte : p.end ≤ 8 * (p.start / 8) + 8
+  pub asks : (p.start < 65535) × (right ≡ true → 0 < p.start)
   -- the next column is nearer
   pub low : x1 ≤ beyond right p
   pub high : beyond right p ≤ x2
   pub nearer : apart (beyond right p) (entering right x1 x2) < apart x (entering right x1 x2)
   -- what is passed then
-  pub more : (u : ℕ) → (passed right x1 x2 x u || within p.from p.to u) ≡ passed right x1 x2 (beyond right p) u
+  pub more : (u : ℕ) → (passed right x1 x2 x u || within p.start p.end u) ≡ passed right x1 x2 (beyond right p) u
   -- each of its columns has its source on the framebuffer, and that was not passed
-  pub other : (u : ℕ) → p.from ≤ u → u < p.to → u ≢ entering right x1 x2
-  pub unpassed : (u : ℕ) → p.from ≤ u → u < p.to → passed right x1 x2 x (source right u) ≡ false
-  pub onward : (u : ℕ) → p.from ≤ u → u < p.to → (source right p.from + (u - p.from) ≡ source right u) × (source right u < width)
+  pub other : (u : ℕ) → p.start ≤ u → u < p.end → u ≢ entering right x1 x2
+  pub unpassed : (u : ℕ) → p.start ≤ u → u < p.end → passed right x1 x2 x (source right u) ≡ false
+  pub onward : (u : ℕ) → p.start ≤ u → u < p.end → (source right p.start + (u - p.start) ≡ source right u) × (source right u < width)
 
 nearer_left : (x1 x m : ℕ) → x1 < m → m ≤ x → apart (m - 1) x1 < apart x x1
 nearer_left x1 x m h k = let a : x1 - (m - 1) ≡ 0 = omega arith in let b : x1 - x ≡ 0 = omega arith in rw (a, b) (omega arith)
@@ -127,49 +127,49 @@ pub record Shifting (right : Bool) (x1 x2 y x : ℕ) (g₀ g : List ℕ) : Type 
   pub shows : g ≡ put (λ u v. passed right x1 x2 x u && eqb v y) (shifted right x1 x2 g₀) g₀
 
 module _ {right : Bool} {x1 x2 y : ℕ} {g₀ : List ℕ} where
-  pub shift_start : {x : ℕ} → Bytes g₀ → x1 ≤ x2 → x ≡ leaving right x1 x2 → Shifting right x1 x2 y x g₀ g₀
+  pub shift_start : {x : ℕ} → Bytes g₀ → x1 ≤ x2 → x ≡ entering (not right) x1 x2 → Shifting right x1 x2 y x g₀ g₀
   shift_start {x} b h e =
       rw e (record {
         low = (inside_leaving right x1 x2 h).0;
         high = (inside_leaving right x1 x2 h).1;
         long = refl;
-        shows = put_off (λ u v. passed right x1 x2 (leaving right x1 x2) u && eqb v y) (shifted right x1 x2 g₀) g₀ b (λ u v on. rw (passed_none right x1 x2 u));
+        shows = put_off (λ u v. passed right x1 x2 (entering (not right) x1 x2) u && eqb v y) (shifted right x1 x2 g₀) g₀ b (λ u v on. rw (passed_none right x1 x2 u));
       })
 
   module _ {x end : ℕ} {g : List ℕ} (s : Shifting right x1 x2 y x g₀ g) (ee : end ≡ entering right x1 x2) where
-    pub shift_part : {p : Part} → x2 < width → x ≢ end → p ≡ part_of right x end → PartIs right x1 x2 x p
+    pub shift_part : {p : Range ℕ} → x2 < width → x ≢ end → p ≡ part_of right x end → PartIs right x1 x2 x p
     shift_part l n e = rw (e, ee) (part_is right x1 x2 x s.low s.high l (λ q. n (q ∙ sym ee)))
 
     pub shift_asks : x2 < width → (x < width) × (end < width)
     shift_asks l = rw ee (omega (arith, s.high), entering_in right x1 x2 (omega (arith, s.low, s.high)) l)
 
-    pub shift_nearer : {p : Part} {n : ℕ} → PartIs right x1 x2 x p → n ≡ beyond right p → apart n end < apart x end
+    pub shift_nearer : {p : Range ℕ} {n : ℕ} → PartIs right x1 x2 x p → n ≡ beyond right p → apart n end < apart x end
     shift_nearer t e = rw (e, ee) t.nearer
 
     -- one part more
-    pub shift_step : {k b n : ℕ} {p : Part} {h : List ℕ} → PartIs right x1 x2 x p → n ≡ beyond right p → k ≡ source right p.from → b ≡ window_of g (width * y + k)
-        → h ≡ put (span p.from (cell_end p.from p.to) y) (bits_from p.from b) g → Shifting right x1 x2 y n g₀ h
+    pub shift_step : {k b n : ℕ} {p : Range ℕ} {h : List ℕ} → PartIs right x1 x2 x p → n ≡ beyond right p → k ≡ source right p.start → b ≡ window_of g (width * y + k)
+        → h ≡ put (span p.start (cell_end p.start p.end) y) (bits_from p.start b) g → Shifting right x1 x2 y n g₀ h
     unfolding shifted bits_from window_of
     shift_step {k} {b} {n} {p} {h} t en ek eb e = rw en (record { low = t.low; high = t.high; long = ap length all ∙ length-repaint _ g₀; shows = all })
       where
-        read : (u : ℕ) → p.from ≤ u → u < p.to → bit_of b (u - p.from) ≡ shifted right x1 x2 g₀ u y
+        read : (u : ℕ) → p.start ≤ u → u < p.end → bit_of b (u - p.start) ≡ shifted right x1 x2 g₀ u y
         read u a c =
             rw (eb, ne_eqb u (entering right x1 x2) (t.other u a c))
-            (bit_byte (λ i. packed_bit g (width * y + k + i)) (u - p.from) (omega (arith, t.byte))
-            ∙ (let z : width * y + k + (u - p.from) ≡ width * y + source right u = omega (arith, ek, (t.onward u a c).0) in rw z)
+            (bit_byte (λ i. packed_bit g (width * y + k + i)) (u - p.start) (omega (arith, t.byte))
+            ∙ (let z : width * y + k + (u - p.start) ≡ width * y + source right u = omega (arith, ek, (t.onward u a c).0) in rw z)
             ∙ packed_row g (source right u) y (t.onward u a c).1
             ∙ rw s.shows (black_outside (outside_put (λ u v. passed right x1 x2 x u && eqb v y) (shifted right x1 x2 g₀) g₀) (source right u) y
             (rw (t.unpassed u a c))))
 
         all : h ≡ put (λ u v. passed right x1 x2 (beyond right p) u && eqb v y) (shifted right x1 x2 g₀) g₀
         all =
-            (rw (end_within p.from p.to t.byte) at e) ∙ put_same (span p.from p.to y) (span p.from p.to y) (bits_from p.from b) (shifted right x1 x2 g₀) g (λ u v on. refl)
-            (λ u v on q. let c = within_true p.from p.to u (and_one (within p.from p.to u) (eqb v y) q) in
-            rw (eqb-true v y (and_two (within p.from p.to u) (eqb v y) q)) (read u c.0 c.1))
-            ∙ ap (put (span p.from p.to y) (shifted right x1 x2 g₀)) s.shows
-            ∙ put_put (λ u v. passed right x1 x2 x u && eqb v y) (span p.from p.to y) (shifted right x1 x2 g₀) g₀
-            ∙ put_region (λ u v. (passed right x1 x2 x u && eqb v y) || span p.from p.to y u v) (λ u v. passed right x1 x2 (beyond right p) u && eqb v y) (shifted right x1 x2 g₀) g₀
-            (λ u v on. sym (and-or_distrib_right (passed right x1 x2 x u) (within p.from p.to u) (eqb v y)) ∙ rw (t.more u))
+            (rw (end_within p.start p.end t.byte) at e) ∙ put_same (span p.start p.end y) (span p.start p.end y) (bits_from p.start b) (shifted right x1 x2 g₀) g (λ u v on. refl)
+            (λ u v on q. let c = within_true p.start p.end u (and_one (within p.start p.end u) (eqb v y) q) in
+            rw (eqb-true v y (and_two (within p.start p.end u) (eqb v y) q)) (read u c.0 c.1))
+            ∙ ap (put (span p.start p.end y) (shifted right x1 x2 g₀)) s.shows
+            ∙ put_put (λ u v. passed right x1 x2 x u && eqb v y) (span p.start p.end y) (shifted right x1 x2 g₀) g₀
+            ∙ put_region (λ u v. (passed right x1 x2 x u && eqb v y) || span p.start p.end y u v) (λ u v. passed right x1 x2 (beyond right p) u && eqb v y) (shifted right x1 x2 g₀) g₀
+            (λ u v on. sym (and-or_distrib_right (passed right x1 x2 x u) (within p.start p.end u) (eqb v y)) ∙ rw (t.more u))
 
     -- and the last one white
     pub shift_end : {h : List ℕ} → x1 ≤ x2 → x ≡ end → h ≡ fill (point end y) false g → h ≡ shifted_row right x1 x2 y g₀

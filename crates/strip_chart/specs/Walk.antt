@@ -4,23 +4,19 @@
 use Rattle.std.specs.Prelude.{Bool, cond, List, ℕ, ◌+◌, ◌-◌, ◌*◌, ◌/◌, min, max}
 use Rattle.pixels.specs.Framebuffer.{put}
 use Rattle.pixels.specs.Regions.{span, box}
-use Rattle.strip_chart.specs.declared.Part.{Part}
+use Rattle.std.specs.declared.ops.Range.{Range}
 use Rattle.strip_chart.specs.Strips.{shifted}
 
-abbrev pub part : ℕ → ℕ → Part
-part a b = record { from = a; to = b }
-
--- the column that goes out: the one that would come in on the way back
-unfoldable pub leaving : Bool → ℕ → ℕ → ℕ
-leaving right x1 x2 = cond right x2 x1
+abbrev pub part : ℕ → ℕ → Range ℕ
+part a b = record { start = a; end = b }
 
 -- the columns in the byte of column x from it on towards column e, and not with that one
-unfoldable pub part_of : Bool → ℕ → ℕ → Part
+unfoldable pub part_of : Bool → ℕ → ℕ → Range ℕ
 part_of right x e = cond right (part (max (8 * (x / 8)) (e + 1)) (x + 1)) (part x (min (8 * (x / 8) + 8) e))
 
 -- the column behind a part, on the way
-unfoldable pub beyond : Bool → Part → ℕ
-beyond right p = cond right (p.from - 1) p.to
+unfoldable pub beyond : Bool → Range ℕ → ℕ
+beyond right p = cond right (p.start - 1) p.end
 
 abbrev pub shifted_row : Bool → ℕ → ℕ → ℕ → List ℕ → List ℕ
 shifted_row right x1 x2 y g = put (span x1 (x2 + 1) y) (shifted right x1 x2 g) g

@@ -3,17 +3,18 @@
 use mathlib.Core.Path.{◌≡◌, ◌∙◌, refl, sym, ap}
 use mathlib.Core.Bool.{Bool, true, false, cond}
 use mathlib.Core.List.{List, []}
-use native.Mathlib.Nat.{mul-le-mul}
-use Prim.Native.Nat.{ℕ, ◌+◌, ◌-◌, ◌*◌, ◌<◌, ◌≤◌}
+use Prim.Native.Nat.{ℕ, ◌<◌, ◌≤◌}
 use lib.Dec.{eqb}
 use lib.ListN.{take, drop}
 use borrow.Author.Tests.{eq-eqb, ne_eqb, le-leb, lt-leb, le-ltb, lt-ltb}
 use Rattle.pixels.specs.Framebuffer.{width}
-use Rattle.directory.specs.declared.Found.{Found}
-use Rattle.directory.specs.declared.Found.TheVariants.{At, Nothing}
+use Rattle.std.specs.Prelude.{Option, Some, None, Result, Ok, Err, IsErrAnd, ⊤}
+use Rattle.refusals.specs.declared.Refusal.{Refusal}
+use Rattle.refusals.specs.declared.Refusal.TheVariants.{NoSuchFile, MalformedFile}
+use Rattle.refusals.specs.Refusals.{number_of}
+use Rattle.directory.specs.declared.Location.{Location}
 use Rattle.directory.specs.Directory.{max_number, find_of}
-use Rattle.fonts.specs.declared.Check.{Check}
-use Rattle.fonts.specs.declared.Check.TheVariants.{Good, Malformed}
+use Rattle.fonts.specs.declared.Malformed.{Malformed}
 use Rattle.fonts.specs.Checks.{check_of}
 use Rattle.fonts.proofs.Laws.{good_is, malformed_is}
 use Rattle.fonts.specs.Fonts.{is_font, nominal_width, height_of}
@@ -22,25 +23,30 @@ use Rattle.state.specs.declared.State.{State}
 use Rattle.rules.specs.World.{world, put_text, quietly, refused}
 use Rattle.rules.specs.Fonts.{opened, shut, opened_at, open_font}
 use Rattle.text.specs.declared.Source.{Source}
-use Rattle.text.specs.declared.Source.TheVariants.{BuiltIn, Stored, Refused}
+use Rattle.text.specs.declared.Source.TheVariants.{BuiltIn, Stored}
 use Rattle.text.specs.Places.{pixel_by, place_by}
 use Rattle.text.specs.Sources.{source_at, source_of, opened_by}
 use Rattle.rules.specs.Text.{with_font, at_point, font_chosen, choose_font, place_in, set_place}
 
 -- ---- where the font of a number lies
 
-found_there : (h : ℕ) (s : List ℕ) (f : Found) → opened_by s (source_at h f s) ≡ opened_at h f s
+found_there : (h : ℕ) (s : List ℕ) (f : Option Location) → opened_by s (source_at h f s) ≡ opened_at h f s
 unfolding source_at opened_at opened_by
-found_there h s Nothing = refl
-found_there h s (At p a z) = by_cases (is_font h (take z (drop a s)))
+found_there h s None = refl
+found_there h s (Some l) = by_cases (is_font h (take l.size (drop l.start s)))
   where
-    by_cases : (t : Bool) → opened_by s (cond t (Stored a z) (Refused 23)) ≡ cond t (opened (take z (drop a s))) (shut 23)
+    by_cases : (t : Bool) → opened_by s (cond t (Ok (Stored l.start l.size)) (Err MalformedFile)) ≡ cond t (opened (take l.size (drop l.start s))) (shut 23)
     by_cases true = refl
     by_cases false = refl
 
+-- a refusal handed on
+pub refused_by : (r : Result Source Refusal) (e d : Refusal) → IsErrAnd r (λ f. f ≡ e) → e ≡ d → r ≡ Err d
+refused_by (Ok x) e d p q = absurd p
+refused_by (Err f) e d p q = ap Err (p ∙ q)
+
 -- and the font that lies there
 module _ (h : ℕ) (s : List ℕ) (n : ℕ) where
-  lies_by : (t : Bool) → opened_by s (cond t BuiltIn (source_at h (find_of s 1 n) s)) ≡ cond t (opened table) (opened_at h (find_of s 1 n) s)
+  lies_by : (t : Bool) → opened_by s (cond t (Ok BuiltIn) (source_at h (find_of s 1 n) s)) ≡ cond t (opened table) (opened_at h (find_of s 1 n) s)
   unfolding opened_by
   lies_by true = refl
   lies_by false = found_there h s (find_of s 1 n)
@@ -49,39 +55,43 @@ module _ (h : ℕ) (s : List ℕ) (n : ℕ) where
   unfolding source_of open_font
   lies_there = lies_by (eqb n 1)
 
-  pub source_built_in : n ≡ 1 → BuiltIn ≡ source_of h s n
+  pub source_built_in : n ≡ 1 → Ok BuiltIn ≡ source_of h s n
   unfolding source_of
   source_built_in e = rw (eq-eqb n 1 e)
 
-  module _ (f : Found) (other : n ≡ 1 → ⊥) (lookup : f ≡ find_of s 1 n) where
-    pub source_22 : f ≡ Nothing → Refused 22 ≡ source_of h s n
+  module _ (f : Option Location) (other : n ≡ 1 → ⊥) (lookup : f ≡ find_of s 1 n) where
+    pub source_22 : f ≡ None → Err NoSuchFile ≡ source_of h s n
     unfolding source_of source_at
     source_22 e = rw (ne_eqb n 1 other, ← lookup, e)
 
-    module _ (p a z : ℕ) (l : List ℕ) (c : Check) (there : f ≡ At p a z) (lent : l ≡ take z (drop a s)) (checked : c ≡ check_of (is_font h l)) where
-      pub source_23 : c ≡ Malformed → Refused 23 ≡ source_of h s n
+    module _ (o : Location) (l : List ℕ) (c : Result ⊤ Malformed) (there : f ≡ Some o) (lent : l ≡ take o.size (drop o.start s)) (checked : c ≡ check_of (is_font h l)) where
+      pub source_23 : (m : Malformed) → c ≡ Err m → Err MalformedFile ≡ source_of h s n
       unfolding source_of source_at
-      source_23 e = rw (ne_eqb n 1 other, ← lookup, there, ← lent, malformed_is c (is_font h l) checked e)
+      source_23 m e = rw (ne_eqb n 1 other, ← lookup, there, ← lent, malformed_is c (is_font h l) m checked e)
 
-      pub source_stored : c ≡ Good → Stored a z ≡ source_of h s n
+      pub source_stored : c ≡ Ok tt → Ok (Stored o.start o.size) ≡ source_of h s n
       unfolding source_of source_at
       source_stored e = rw (ne_eqb n 1 other, ← lookup, there, ← lent, good_is c (is_font h l) checked e)
 
-  module _ (c : Source) (sought : c ≡ source_of h s n) where
+  module _ (c : Result Source Refusal) (sought : c ≡ source_of h s n) where
     opened_there : opened_by s c ≡ open_font h s n
     opened_there = ap (opened_by s) sought ∙ lies_there
 
-    pub from_built_in : (l : List ℕ) → c ≡ BuiltIn → l ≡ table → open_font h s n ≡ opened l
+    pub from_built_in : (l : List ℕ) → c ≡ Ok BuiltIn → l ≡ table → open_font h s n ≡ opened l
     unfolding opened_by
     from_built_in l e d = sym opened_there ∙ rw (e, d)
 
-    pub from_stored : (a z : ℕ) (l : List ℕ) → c ≡ Stored a z → l ≡ take z (drop a s) → open_font h s n ≡ opened l
+    pub from_stored : (a z : ℕ) (l : List ℕ) → c ≡ Ok (Stored a z) → l ≡ take z (drop a s) → open_font h s n ≡ opened l
     unfolding opened_by
     from_stored a z l e d = sym opened_there ∙ rw (e, d)
 
-    pub from_refused : (k : ℕ) → c ≡ Refused k → open_font h s n ≡ shut k
+    pub from_found : (v : Source) → c ≡ Ok v → (l : List ℕ) × (open_font h s n ≡ opened l)
+    from_found BuiltIn e = (table, from_built_in table e refl)
+    from_found (Stored a z) e = (take z (drop a s), from_stored a z _ e refl)
+
+    pub from_refused : (r : Refusal) → c ≡ Err r → open_font h s n ≡ shut (number_of r)
     unfolding opened_by
-    from_refused k e = sym opened_there ∙ rw e
+    from_refused r e = sym opened_there ∙ rw e
 
 -- ---- choosing it
 
@@ -100,13 +110,6 @@ module _ (g s : List ℕ) (st : State) (n : ℕ) where
   choose_opened l m e = rw (le-ltb max_number n m, e)
 
 -- ---- the text point by column and row
-
-pub product_fits : (a b : ℕ) → a ≤ 254 → b ≤ 510 → a * b ≤ 129540
-product_fits a b h k = mul-le-mul h k
-
-pub pixel_is : (margin place size space m p z q n : ℕ) → z ≡ size → q ≡ space → m ≡ margin → p ≡ place → n ≡ (p - 1) * (z + q)
-    → m + n ≡ margin + (place - 1) * (size + space)
-pixel_is margin place size space m p z q n ez eq em ep en = rw (en, ez, eq, em, ep)
 
 module _ (g s : List ℕ) (st : State) (c r v k : ℕ) where
   pub place_no_column : c ≡ 0 → place_by (world g s st) c r v k ≡ refused 17 []

@@ -1,7 +1,7 @@
 // A command that stands whole at the front of what is left of a piece: how many bytes it has, and obeyed at once.
 #![tactic(auto)]
 
-ghost use Rattle.std.specs.Prelude.{◌≡◌, ◌+◌, ◌≤◌, min, length, take, drop};
+ghost use Rattle.std.specs.Prelude.{◌≡◌, ◌+◌, ◌<◌, ◌≤◌, SomeIff, length, take, drop};
 ghost use Rattle.std.proofs.lemmas.List.Edits.{sets};
 ghost use Rattle.state.specs.State.{no_args};
 ghost use Rattle.rules.specs.Step.{obey};
@@ -11,8 +11,9 @@ ghost use Rattle.whole_command.specs.Whole.{is_idle, command_in, fixed_arguments
 use commands::obey;
 use interpreter::{PREFIX, SHOW_BITMAP};
 use outcome::{Outcome, refused};
-use refusals::UNKNOWN_COMMAND;
-use state::{ARGUMENTS, Config, Phase, Port, arguments_of, command_of};
+use record::copy_bytes;
+use refusals::Refusal;
+use state::{ARGUMENTS, Command, Config, Phase, Port, arguments_of};
 
 // Prefix and code, before the arguments.
 const ARGUMENTS_AT: usize = 2;
@@ -20,57 +21,27 @@ const ARGUMENTS_AT: usize = 2;
 fn is_idle(phase: Phase) -> bool
     ensures { result ≡ is_idle phase }
 {
-    match phase {
-        Phase::Idle => true,
-        Phase::Prefix => false,
-        Phase::Gathering { code: _, got: _ } => false,
-        Phase::Inline {
-            x1: _,
-            y1: _,
-            x2: _,
-            y2: _,
-            done: _,
-        } => false,
-        Phase::Upload {
-            sort: _,
-            number: _,
-            size: _,
-            stored: _,
-            waiting: _,
-            byte: _,
-            waited: _,
-        } => false,
-    }
+    matches!(phase, Phase::Idle)
 }
 
-fn least(a: usize, b: usize) -> usize
-    ensures { result ≡ min a b }
+// The bytes of a command that stands whole at the front, outside any other.
+#[tactic(auto, unfolding(crate::specs::Whole::whole_in, crate::specs::Whole::is_whole))]
+pub fn whole_length(edition: u8, phase: Phase, bytes: &[u8]) -> Option<usize>
+    ensures { SomeIff result (0 < whole_in edition phase bytes.now) (whole_in edition phase bytes.now) }
 {
-    if a < b { a } else { b }
-}
-
-// The bytes of a command that stands whole at the front, outside any other; 0 where none does.
-pub fn whole_length(edition: u8, phase: Phase, bytes: &[u8]) -> usize
-    ensures { result ≡ whole_in edition phase bytes.now }
-{
-    if !is_idle(phase) {
-        return 0;
+    if !is_idle(phase)
+        || bytes.len() < ARGUMENTS_AT
+        || bytes[0] != PREFIX
+        || bytes[1] == SHOW_BITMAP
+    {
+        return None;
     }
-    if bytes.len() < ARGUMENTS_AT {
-        return 0;
-    }
-    if bytes[0] != PREFIX {
-        return 0;
-    }
-    if bytes[1] == SHOW_BITMAP {
-        return 0;
-    }
-    let command = command_of(bytes[1]);
-    let length = ARGUMENTS_AT + arguments_of(edition, command) as usize;
+    let command = Command::from(bytes[1]);
+    let length = ARGUMENTS_AT + usize::from(arguments_of(edition, command));
     if bytes.len() < length {
-        return 0;
+        return None;
     }
-    length
+    Some(length)
 }
 
 // So many arguments, with zeros behind them.
@@ -79,11 +50,10 @@ fn fixed_arguments(bytes: &[u8], count: usize) -> [u8; ARGUMENTS]
     ensures { result ≡ sets no_args 0 (take count (drop 2 bytes.now)) }
 {
     let mut args = [0; ARGUMENTS];
-    let mut i = 0;
-    while i < count {
-        args[i] = bytes[ARGUMENTS_AT + i];
-        i += 1;
-    }
+    copy_bytes(
+        &mut args[..count],
+        &bytes[ARGUMENTS_AT..ARGUMENTS_AT + count],
+    );
     args
 }
 
@@ -99,13 +69,10 @@ pub fn obey_whole(
     ensures { Obeys (told_both config) (obey (command_in bytes.now) (fixed_arguments config.edition bytes.now)) port (lent framebuffer.old framebuffer.new) (lent store.old store.new) (lent panel.old panel.new) result }
 {
     if bytes.len() < ARGUMENTS_AT {
-        return refused(port, UNKNOWN_COMMAND);
+        return refused(port, Refusal::UnknownCommand);
     }
-    let command = command_of(bytes[1]);
-    let count = least(
-        arguments_of(config.edition, command) as usize,
-        bytes.len() - ARGUMENTS_AT,
-    );
+    let command = Command::from(bytes[1]);
+    let count = usize::from(arguments_of(config.edition, command)).min(bytes.len() - ARGUMENTS_AT);
     let args = fixed_arguments(bytes, count);
     obey(command, args, framebuffer, store, panel, port, config)
 }

@@ -1,9 +1,11 @@
-use Rattle.bar_graph.proofs.Ways.{length-rows, length-columns}
 use borrow.Author.Rules.{rules}
+use Rattle.bar_graph.specs.Bars.{length_of}
 use Rattle.bar_graph.proofs.length_of.Goals as goal
 
 pub returns-then-is_vertical : goal.returns-then-is_vertical
-returns-then-is_vertical c = length-rows _ _ _ c.is_vertical.ensures (search rules) (search rules)
+unfolding length_of
+returns-then-is_vertical c = search rules
 
 pub returns : goal.returns
-returns c = length-columns _ _ _ c.is_vertical.ensures (search rules) (search rules)
+unfolding length_of
+returns c = search rules

@@ -1,12 +1,14 @@
-use mathlib.Core.Path.{subst}
-use Prim.Native.Nat.{ℕ}
-use Rattle.bitmap.specs.Pairs.{swapped, BlendedPair}
-use Rattle.bitmap.proofs.Pairs.{pair_stored}
+use mathlib.Core.Path.{◌≡◌, ◌∙◌}
+use Prim.Native.Nat.{◌/◌, ◌%◌}
+use native.Mathlib.Omega.{arith}
+use Rattle.bitmap.specs.Pairs.{swapped}
+use Rattle.bitmap.proofs.Pairs.{pair_is, swap_is, pair_stored}
 use borrow.Author.Rules.{rules}
 use Rattle.bitmap.proofs.paint_pair.Goals as goal
 
 pub returns : goal.returns
 returns c = let a = c.args in
-    pair_stored a.framebuffer.now a.at (λ i. (c.slice_known-1.given i).fits) (search rules) a.mask (swapped a.columns) _
-    (subst (λ (n : ℕ). BlendedPair n a.mask (swapped a.columns) c.blended-both.result) c.pair_at.ensures
-    (subst (λ (n : ℕ). BlendedPair c.pair_at.result a.mask n c.blended-both.result) c.swapped.ensures c.blended-both.ensures))
+    let high : c.blended.result / 256 % 256 ≡ c.blended.result / 256 = omega arith in
+    rw (c.to_le_bytes.ensures, high)
+    (pair_stored a.framebuffer.now a.at (λ i. (c.slice_known-1.given i).fits) (search rules) a.mask (swapped a.columns) c.blended.result
+    (rw (pair_is a.framebuffer.now a.at c.from_le_bytes-old.result (c.from_le_bytes-old.ensures ∙ omega arith), swap_is a.columns c.swap_bytes.result (search rules) c.swap_bytes.ensures) at c.blended.ensures))

@@ -2,8 +2,8 @@ use Prim.Native.Nat.{◌-◌, ◌*◌}
 use Rattle.bitmap.proofs.Strips.{PairsPainted}
 use Rattle.bitmap.proofs.paint_pairs.Given as goal
 
-abbrev pub invariant-loop-next : goal.invariant-loop-next
-invariant-loop-next l = PairsPainted l.x1 l.x2 l.n l.w l.first l.next l.k l.bits l.initial.rows l.rows
+abbrev pub invariant-loop-at : goal.invariant-loop-at
+invariant-loop-at l = PairsPainted l.x1 l.x2 l.n l.w l.first l.at l.k l.bits l.initial.rows l.rows
 
-abbrev pub decreases-loop-next : goal.decreases-loop-next
-decreases-loop-next l = 30 * l.n - l.next
+abbrev pub decreases-loop-at : goal.decreases-loop-at
+decreases-loop-at l = 30 * l.n - l.at

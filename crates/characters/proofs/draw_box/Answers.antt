@@ -5,20 +5,16 @@ use native.Mathlib.Omega.{arith}
 use Rattle.outcome.specs.Contract.{held}
 use Rattle.outcome.proofs.Laws.{obeys_refused, obeys_done}
 use Rattle.characters.proofs.Places.{fits, moved_none, drawn_29, drawn_done, box_filled}
-use borrow.Author.Rules.{rules}
 use Rattle.characters.proofs.draw_box.Goals as goal
 
 pub returns-in_default : goal.returns-in_default
-returns-in_default c = obeys_refused 29 c.refused.ensures (λ h g s p. ap (λ (x : List ℕ). held h x s p c.args.port) (moved_none _ _ _ (search rules) c.make_room-place.ensures.1)) (λ h g s p. drawn_29 _ _ _ _ _ _ _ c.make_room-place.ensures.0 (search rules))
+returns-in_default c = obeys_refused 29 c.refused.ensures (λ h g s p. ap (λ (x : List ℕ). held h x s p c.args.port) (moved_none _ _ _ c.in_default.is c.make_room.ensures.1)) (λ h g s p. drawn_29 _ _ _ _ _ _ _ c.make_room.ensures.0 c.in_default.is)
 
 pub overflow_add-x : goal.overflow_add-x
-overflow_add-x c = omega (arith, (fits _ _ _ _ _ _ _ _ c.make_room-place.ensures.0 c.in-At.is).right, c.word.ensures)
-
-pub overflow_add-y : goal.overflow_add-y
-overflow_add-y c = omega (arith, (fits _ _ _ _ _ _ _ _ c.make_room-place.ensures.0 c.in-At.is).below, c.word-2.ensures)
+overflow_add-x c = omega (arith, (fits _ _ _ _ _ _ c.make_room.ensures.0 c.in-Some.is).right, c.from.ensures)
 
 pub move_on-requires : goal.move_on-requires
-move_on-requires c = let f = fits _ _ _ _ _ _ _ _ c.make_room-place.ensures.0 c.in-At.is in (f.right, omega (arith, f.below))
+move_on-requires c = (fits _ _ _ _ _ _ c.make_room.ensures.0 c.in-Some.is).right
 
 pub returns : goal.returns
-returns c = obeys_done _ c.move_on.ensures (λ p. refl) (λ h g s p. drawn_done _ _ _ _ _ _ _ c.make_room-place.ensures.0 _ _ _ _ _ c.in-At.is c.make_room-place.ensures.1 (box_filled _ _ _ _ _ _ _ _ c.word.ensures.0 c.word-2.ensures.0 c.fill_box.ensures))
+returns c = obeys_done _ c.move_on.ensures (λ p. refl) (λ h g s p. drawn_done _ _ _ _ _ _ _ c.make_room.ensures.0 _ _ _ c.in-Some.is c.make_room.ensures.1 (box_filled _ _ _ _ _ _ _ _ _ c.from.ensures c.from-top.ensures c.from-2.ensures c.fill_box.ensures))

@@ -11,4 +11,4 @@ pub whole_entry-requires-2 : goal.whole_entry-requires-2
 whole_entry-requires-2 c = (c.requires.0 ∙ ap length_of (sym c.byte_at.ensures), search rules, omega (arith, c.requires.0, length_most (get_or c.args.store.now c.args.p 0)))
 
 pub returns : goal.returns
-returns c = (c.whole_entry-2.ensures.0 ∙ copied _ _ _ _ _ _ _ _ _ c.byte_at.ensures c.byte_at-2.ensures c.byte_at-3.ensures c.byte_at-4.ensures c.byte_at-5.ensures c.byte_at-6.ensures c.byte_at-7.ensures, search rules)
+returns c = (c.whole_entry-2.ensures.0 ∙ copied _ _ _ _ _ _ _ _ _ c.byte_at.ensures c.byte_at-2.ensures c.byte_at-3.ensures c.byte_at-4.ensures c.byte_at-5.ensures c.byte_at-6.ensures c.byte_at-7.ensures, c.whole_entry-2.ensures.1)

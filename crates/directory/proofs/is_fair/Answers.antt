@@ -1,15 +1,13 @@
-use borrow.Author.Tests.{ne_eqb, eq-eqb, le-leb, lt-leb}
+use Rattle.std.proofs.Common.{arith}
+use Rattle.std.proofs.lemmas.Bool.Decides.{nat_tests}
 use Rattle.directory.specs.Directory.{is_fair}
+use Rattle.directory.proofs.is_fair.Goals.{then-e-ne0, else-e-ne0}
 use Rattle.directory.proofs.is_fair.Goals as goal
 
-pub returns-then-e-eq0 : goal.returns-then-e-eq0
+pub returns-then-e-le-MAX_NUMBER : goal.returns-then-e-le-MAX_NUMBER
 unfolding is_fair
-returns-then-e-eq0 c = simp (eq-eqb _ _ c.if-e-eq0.true)
+returns-then-e-le-MAX_NUMBER c = elim c.if-e-ne0.branch [ then-e-ne0 w ↦ grind (arith, nat_tests) | else-e-ne0 w ↦ grind (arith, nat_tests) ]
 
-pub returns-then-e-gt-MAX_NUMBER : goal.returns-then-e-gt-MAX_NUMBER
+pub returns-else-e-le-MAX_NUMBER : goal.returns-else-e-le-MAX_NUMBER
 unfolding is_fair
-returns-then-e-gt-MAX_NUMBER c = simp (ne_eqb _ _ c.if-e-eq0.false, lt-leb _ _ c.if-e-gt-MAX_NUMBER.true)
-
-pub returns : goal.returns
-unfolding is_fair
-returns c = simp (ne_eqb _ _ c.if-e-eq0.false, le-leb _ _ c.if-e-gt-MAX_NUMBER.false) (rw c.is_file.ensures)
+returns-else-e-le-MAX_NUMBER c = elim c.if-e-ne0.branch [ then-e-ne0 w ↦ grind (arith, nat_tests) | else-e-ne0 w ↦ grind (arith, nat_tests) ]

@@ -10,5 +10,5 @@ returns-then-p-ge-DIRECTORY c = step_past _ _ (search rules)
 pub returns-then-p-n-le-DIRECTORY : goal.returns-then-p-n-le-DIRECTORY
 returns-then-p-n-le-DIRECTORY c = step_in _ _ _ (c.record_length-n.ensures.0 ∙ ap length_of c.byte_at.ensures) (search rules)
 
-pub returns : goal.returns
-returns c = step_over _ _ _ (c.record_length-n.ensures.0 ∙ ap length_of c.byte_at.ensures) (search rules)
+pub returns-else-p-n-le-DIRECTORY : goal.returns-else-p-n-le-DIRECTORY
+returns-else-p-n-le-DIRECTORY c = step_over _ _ _ (c.record_length-n.ensures.0 ∙ ap length_of c.byte_at.ensures) (search rules)

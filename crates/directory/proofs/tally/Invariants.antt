@@ -1,9 +1,6 @@
-use Prim.Native.Nat.{◌-◌}
+use Rattle.std.proofs.Common.{◌≡◌}
 use Rattle.directory.proofs.Walks.{Counting}
 use Rattle.directory.proofs.tally.Given as goal
 
-abbrev pub invariant-loop-p : goal.invariant-loop-p
-invariant-loop-p l = Counting l.store l.p l.used
-
-abbrev pub decreases-loop-p : goal.decreases-loop-p
-decreases-loop-p l = 256 - l.p
+abbrev pub invariant-loop-r : goal.invariant-loop-r
+invariant-loop-r l = record { same : l.r-iterator.store.now ≡ l.store; stands : l.r-iterator.at ≡ l.end; counting : Counting l.store l.end l.used }

@@ -1,9 +1,6 @@
-use Prim.Native.Nat.{◌-◌}
+use Rattle.std.proofs.Common.{◌+◌}
 use Rattle.directory.proofs.Walks.{Zeroing}
 use Rattle.directory.proofs.zeros_from.Given as goal
 
-abbrev pub invariant-loop-p : goal.invariant-loop-p
-invariant-loop-p l = Zeroing l.store l.from l.p l.all
-
-abbrev pub decreases-loop-p : goal.decreases-loop-p
-decreases-loop-p l = 256 - l.p
+abbrev pub invariant-loop-b : goal.invariant-loop-b
+invariant-loop-b l = Zeroing l.store l.from (l.from + l.b-index) l.all

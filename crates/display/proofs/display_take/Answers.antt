@@ -3,7 +3,10 @@ use borrow.Author.Rules.{rules}
 use Rattle.display.proofs.display_take.Goals as goal
 
 pub returns-then-not-is_record : goal.returns-then-not-is_record
-returns-then-not-is_record c = take_3 _ _ _ c.is_record.ensures (search rules)
+returns-then-not-is_record c = rw c.from.ensures (take_3 _ _ _ c.is_record.ensures (search rules))
 
-pub returns : goal.returns
-returns c = take_queue _ _ _ c.is_record.ensures (search rules) _ c.flow_in-flow.ensures _ _ _ _ c.take-taken.ensures
+pub returns-in-Ok : goal.returns-in-Ok
+returns-in-Ok c = rw c.number_sent.ensures (take_queue _ _ _ c.is_record.ensures (search rules) _ c.flow_in-flow.ensures _ c.in-Ok.ensures)
+
+pub returns-in-Err : goal.returns-in-Err
+returns-in-Err c = rw (c.from-in-Err-2.ensures, c.from-in-Err.ensures) (take_queue _ _ _ c.is_record.ensures (search rules) _ c.flow_in-flow.ensures _ c.in-Err.ensures)

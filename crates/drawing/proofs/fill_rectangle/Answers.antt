@@ -8,4 +8,4 @@ pub returns-then-not-is_ordered : goal.returns-then-not-is_ordered
 returns-then-not-is_ordered c = obeys_refused 18 c.refused.ensures (λ h g s p. refl) (λ h g s p. solid_refused _ _ _ _ _ _ _ c.is_ordered.ensures (search rules))
 
 pub returns : goal.returns
-returns c = obeys_done _ c.done.ensures (λ p. refl) (λ h g s p. solid_is _ _ _ _ _ _ _ _ _ _ _ c.is_ordered.ensures (search rules) c.from_byte.ensures c.fill_rectangle.ensures)
+returns c = obeys_done _ c.done.ensures (λ p. refl) (λ h g s p. solid_is _ _ _ _ _ _ _ _ _ _ _ c.is_ordered.ensures (search rules) c.from.ensures c.fill_rectangle.ensures)

@@ -1,6 +1,5 @@
 use mathlib.Core.List.{[]}
 use mathlib.Core.Path.{◌∙◌, refl}
-use Prim.Native.Nat.{◌-◌}
 use native.Mathlib.Omega.{arith}
 use borrow.Author.Rules.{rules}
 use Rattle.rules.specs.Calls.{bytes}
@@ -19,16 +18,16 @@ pub returns-then-replies-at-lt-REPLY_ROOM : goal.returns-then-replies-at-lt-REPL
 returns-then-replies-at-lt-REPLY_ROOM c = (piece_stop c.args.piece.now c.loop-i.invariant.4 (search rules) (search rules), c.loop-i.invariant.5)
 
 pub overflow_add-i : goal.overflow_add-i
-overflow_add-i c = omega (arith, command_fits c.args.piece.now _ _ c.args.config.edition c.loop-i.p.line.phase c.loop-i-test.true c.whole_length-n.ensures c.if-n-gt0.true, c.well_formed.1.1.1.1.1.0.0)
+overflow_add-i c = omega (arith, command_fits c.args.piece.now _ _ c.args.config.edition c.loop-i.p.line.phase c.loop-i-test.true c.in-Some.ensures.0 c.in-Some.ensures.1, c.well_formed.1.1.1.1.1.0.0)
 
 pub send-at-requires : goal.send-at-requires
 send-at-requires c = omega (arith, (room_known c.loop-i.invariant.4).1, c.if-replies-at-lt-REPLY_ROOM.false)
 
-pub loop-i-smaller-then-n-gt0 : goal.loop-i-smaller-then-n-gt0
-loop-i-smaller-then-n-gt0 c = omega (arith, command_fits c.args.piece.now _ _ c.args.config.edition c.loop-i.p.line.phase c.loop-i-test.true c.whole_length-n.ensures c.if-n-gt0.true, c.if-n-gt0.true)
+pub loop-i-smaller-in-Some : goal.loop-i-smaller-in-Some
+loop-i-smaller-in-Some c = omega (arith, command_fits c.args.piece.now _ _ c.args.config.edition c.loop-i.p.line.phase c.loop-i-test.true c.in-Some.ensures.0 c.in-Some.ensures.1, c.in-Some.ensures.0, c.in-Some.ensures.1)
 
-pub loop-i-preserved-then-n-gt0 : goal.loop-i-preserved-then-n-gt0
-loop-i-preserved-then-n-gt0 c = let o = command_one _ c.args.piece.now _ _ c.loop-i.invariant.4.kept c.whole_length-n.ensures c.if-n-gt0.true in let s = stepped (held _ _ _ _ _) (held _ _ _ _ _) _ _ (one_kept _ (bytes c.args.piece.now) c.loop-i.i c.whole_length-n.result c.loop-i.invariant.4.kept (bytes_come c.args.piece.now (λ j. (c.type_inv.piece j).fits)) o) c.loop-i.invariant.5 (c.obey_whole-o.ensures.came c.args.config [] [] []) in (c.framebuffer-1.given ∙ c.loop-i.invariant.0, c.store-1.given ∙ c.loop-i.invariant.1, c.panel-1.given ∙ c.loop-i.invariant.2, c.replies-1.given ∙ c.loop-i.invariant.3, feeding_more _ _ _ _ _ c.loop-i.invariant.4 (bytes_come c.args.piece.now (λ j. (c.type_inv.piece j).fits)) o (in_piece c.args.piece.now _ (command_fits c.args.piece.now _ _ c.args.config.edition c.loop-i.p.line.phase c.loop-i-test.true c.whole_length-n.ensures c.if-n-gt0.true)) c.if-replies-at-lt-REPLY_ROOM.false s.next s.sends c.send-at.ensures.0 c.send-at.ensures.1, s.written)
+pub loop-i-preserved-in-Some : goal.loop-i-preserved-in-Some
+loop-i-preserved-in-Some c = let o = command_one _ c.args.piece.now _ _ c.loop-i.invariant.4.kept c.in-Some.ensures.0 c.in-Some.ensures.1 in let s = stepped (held _ _ _ _ _) (held _ _ _ _ _) _ _ (one_kept _ (bytes c.args.piece.now) c.loop-i.i c.in-Some.n c.loop-i.invariant.4.kept (bytes_come c.args.piece.now (λ j. (c.type_inv.piece j).fits)) o) c.loop-i.invariant.5 (c.obey_whole-o.ensures.came c.args.config [] [] []) in (c.framebuffer-1.given ∙ c.loop-i.invariant.0, c.store-1.given ∙ c.loop-i.invariant.1, c.panel-1.given ∙ c.loop-i.invariant.2, c.replies-1.given ∙ c.loop-i.invariant.3, feeding_more _ _ _ _ _ c.loop-i.invariant.4 (bytes_come c.args.piece.now (λ j. (c.type_inv.piece j).fits)) o (in_piece c.args.piece.now _ (command_fits c.args.piece.now _ _ c.args.config.edition c.loop-i.p.line.phase c.loop-i-test.true c.in-Some.ensures.0 c.in-Some.ensures.1)) c.if-replies-at-lt-REPLY_ROOM.false s.next s.sends c.send-at.ensures.0 c.send-at.ensures.1, s.written)
 
 pub overflow_add-i-in-loop-i : goal.overflow_add-i-in-loop-i
 overflow_add-i-in-loop-i c = omega (arith, c.loop-i-test.true, c.well_formed.1.1.1.1.1.0.0)

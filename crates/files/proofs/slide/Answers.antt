@@ -1,6 +1,5 @@
 use borrow.Author.Rules.{rules}
 use native.Mathlib.Omega.{arith}
-use Prim.Native.Nat.{◌-◌}
 use lib.ListN.{length-drop}
 use Rattle.files.proofs.Moves.{pasting_start, pasting_more, pasting_end, unmoved}
 use Rattle.files.proofs.slide.Goals as goal

@@ -1,6 +1,5 @@
 use borrow.Author.Rules.{rules}
 use borrow.Author.Tests.{not-true, not-false}
-use Prim.Native.Nat.{◌-◌}
 use Rattle.fonts.proofs.Ways.{checking_start, checking_stop, checking_more, checking_end}
 use Rattle.fonts.proofs.are_entries.Goals as goal
 

@@ -1,12 +1,13 @@
-use Rattle.fonts.proofs.Ways.{bitmap_narrow, bitmap_flat, bitmap_ends}
-use borrow.Author.Rules.{rules}
+use Rattle.std.proofs.Common.{arith}
+use Rattle.std.proofs.lemmas.Bool.Decides.{nat_tests}
+use Rattle.fonts.specs.Bitmaps.{is_bitmap}
+use Rattle.fonts.proofs.is_bitmap.Goals.{then-w-ne0, else-w-ne0}
 use Rattle.fonts.proofs.is_bitmap.Goals as goal
 
-pub returns-then-w-eq0 : goal.returns-then-w-eq0
-returns-then-w-eq0 c = bitmap_narrow _ _ _ c.bitmap_width-w.ensures c.bitmap_height-h.ensures (search rules)
+pub returns-then-h-ne0 : goal.returns-then-h-ne0
+unfolding is_bitmap
+returns-then-h-ne0 c = elim c.if-w-ne0.branch [ then-w-ne0 w ↦ grind (arith, nat_tests) | else-w-ne0 w ↦ grind (arith, nat_tests) ]
 
-pub returns-then-h-eq0 : goal.returns-then-h-eq0
-returns-then-h-eq0 c = bitmap_flat _ _ _ c.bitmap_width-w.ensures c.bitmap_height-h.ensures (search rules) (search rules)
-
-pub returns : goal.returns
-returns c = bitmap_ends _ _ _ c.bitmap_width-w.ensures c.bitmap_height-h.ensures _ (search rules) (search rules) c.packed_bytes.ensures.0
+pub returns-else-h-ne0 : goal.returns-else-h-ne0
+unfolding is_bitmap
+returns-else-h-ne0 c = elim c.if-w-ne0.branch [ then-w-ne0 w ↦ grind (arith, nat_tests) | else-w-ne0 w ↦ grind (arith, nat_tests) ]

@@ -1,5 +1,3 @@
-use borrow.Author.Rules.{rules}
-use mathlib.Core.Path.{◌≡◌, refl, ◌∙◌, ap}
 use Rattle.opened_font.specs.Glyphs.{glyph_of}
 use Rattle.opened_font.proofs.glyph_of.Goals as goal
 

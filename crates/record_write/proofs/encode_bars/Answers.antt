@@ -1,5 +1,4 @@
 use mathlib.Core.Path.{refl}
-use Prim.Native.Nat.{◌-◌}
 use borrow.Author.Rules.{rules}
 use Rattle.record.specs.Layout.{bars_at}
 use Rattle.record.specs.Writing.{slot_bytes}
@@ -11,7 +10,7 @@ pub loop-i-init : goal.loop-i-init
 loop-i-init c = laying_start slot_bytes 7 bars_at _ _
 
 pub loop-i-preserved : goal.loop-i-preserved
-loop-i-preserved c = laying_step slot_bytes 7 bars_at c.loop-i.invariant no_bar (λ a. refl) (search rules) c.slot_bytes-bytes.ensures c.put.ensures
+loop-i-preserved c = laying_step slot_bytes 7 bars_at c.loop-i.invariant no_bar (λ a. refl) (search rules) c.slot_bytes.ensures c.put.ensures
 
 pub returns : goal.returns
 returns c = (laying_end slot_bytes 7 bars_at c.loop-i.invariant (search rules), search rules)

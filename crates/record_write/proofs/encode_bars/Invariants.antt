@@ -1,4 +1,3 @@
-use Prim.Native.Nat.{◌-◌}
 use Rattle.record.specs.Layout.{bars_at}
 use Rattle.record.specs.Writing.{slot_bytes}
 use Rattle.record_write.proofs.Loops.{Laying}
@@ -6,6 +5,3 @@ use Rattle.record_write.proofs.encode_bars.Given as goal
 
 abbrev pub invariant-loop-i : goal.invariant-loop-i
 invariant-loop-i l = Laying slot_bytes 7 bars_at l.bars l.initial.out l.out l.i
-
-abbrev pub decreases-loop-i : goal.decreases-loop-i
-decreases-loop-i l = 16 - l.i

@@ -1,5 +1,4 @@
 use borrow.Author.Rules.{rules}
-use Prim.Native.Nat.{◌-◌}
 use Rattle.scroll.proofs.Bytes.{moving_none, moving_more, moving_all}
 use Rattle.scroll.proofs.move_up.Goals as goal
 

@@ -1,8 +1,10 @@
-use mathlib.Core.Path.{◌∙◌}
+use Prim.Native.Nat.{◌+◌, ◌*◌}
+use mathlib.Core.Path.{◌≡◌}
+use borrow.Author.Rules.{rules}
 use Rattle.spans.proofs.Windows.{window_is}
 use Rattle.spans.proofs.window.Goals as goal
 
 pub returns : goal.returns
-returns c = let a = c.args in
-    window_is a.bits.now a.k c.word.result c.word-2.result
-    (c.word.ensures.0 ∙ c.byte_at.ensures) (c.word-2.ensures.0 ∙ c.byte_at-2.ensures) c.word-2.ensures.1
+returns c =
+    let both : c.from_be_bytes-both.result ≡ 256 * c.byte_at.result + c.byte_at-2.result = search rules in
+    rw both (window_is _ _ _ _ (search rules) (search rules) (search rules))

@@ -1,5 +1,4 @@
 use borrow.Author.Rules.{rules}
-use Prim.Native.Nat.{◌-◌}
 use Rattle.pixels.proofs.Growth.{rows_start, rows_end_lem}
 use Rattle.strip_chart.proofs.Walk.{shift_row_step}
 use Rattle.strip_chart.proofs.shift_rows.Goals as goal

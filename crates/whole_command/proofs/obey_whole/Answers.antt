@@ -8,7 +8,7 @@ pub returns-then-bytes-lt-ARGUMENTS_AT : goal.returns-then-bytes-lt-ARGUMENTS_AT
 returns-then-bytes-lt-ARGUMENTS_AT c = obeys_refused _ c.refused.ensures (λ h g s p. refl) (λ h g s p. short_unknown c.args.config.edition c.args.bytes.now (search rules) _)
 
 pub fixed_arguments-args-requires : goal.fixed_arguments-args-requires
-fixed_arguments-args-requires c = room_there c.args.config.edition c.args.bytes.now _ _ _ c.command_of-command.ensures c.arguments_of.ensures c.least-count.ensures (search rules)
+fixed_arguments-args-requires c = room_there c.args.config.edition c.args.bytes.now _ _ _ c.from-command.ensures c.arguments_of.ensures (search rules) (search rules)
 
 pub returns : goal.returns
-returns c = whole_obeyed c.args.config.edition c.args.bytes.now _ _ _ c.command_of-command.ensures c.arguments_of.ensures c.least-count.ensures _ c.fixed_arguments-args.ensures c.obey.ensures
+returns c = whole_obeyed c.args.config.edition c.args.bytes.now _ _ _ c.from-command.ensures c.arguments_of.ensures (search rules) _ c.fixed_arguments-args.ensures c.obey.ensures
