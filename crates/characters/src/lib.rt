@@ -15,7 +15,7 @@ use canvas::{Colour, WIDTH};
 use directory::{part, rest};
 use fonts::nominal_width;
 use opened_font::glyph_of;
-use outcome::{Outcome, done, put_text, refused};
+use outcome::{Outcome, done, put_text, refused_in_line};
 use rectangle::fill_box;
 use refusals::Refusal;
 use scroll::scroll_up;
@@ -116,11 +116,10 @@ fn move_on(port: Port, x: u16, y: u8, width: u8) -> Outcome
     requires { x + width ≤ 240 }
     ensures { result ≡ done_of (with_text port (at_point port.text (x + width + port.text.char_space) y)) }
 {
-    let text = Text {
-        x: x + u16::from(width) + u16::from(port.text.char_space),
-        y,
-        ..port.text
-    };
+    // Copied whole, as in outcome.
+    let mut text = port.text;
+    text.x = x + u16::from(width) + u16::from(text.char_space);
+    text.y = y;
     done(put_text(port, text))
 }
 
@@ -129,7 +128,7 @@ fn draw_glyph(framebuffer: &mut [u8], port: Port, height: u8, size: Size, bits: 
     ensures { Obeys (told height) (λ w. drawn_on w (drawn (rows bits.now) size.width size.height)) port (lent framebuffer.old framebuffer.new) unlent unlent result }
 {
     let Some(Place { x, y, .. }) = make_room(framebuffer, port.text, size, height) else {
-        return refused(port, Refusal::GlyphDoesNotFit);
+        return refused_in_line(port, Refusal::GlyphDoesNotFit);
     };
     paint_packed(framebuffer, x, y, size.width, size.height, bits);
     move_on(port, x, y, size.width)
@@ -140,7 +139,7 @@ fn draw_box(framebuffer: &mut [u8], port: Port, height: u8, size: Size) -> Outco
     ensures { Obeys (told height) (λ w. drawn_on w (drawn solid size.width size.height)) port (lent framebuffer.old framebuffer.new) unlent unlent result }
 {
     let Some(Place { x, y, .. }) = make_room(framebuffer, port.text, size, height) else {
-        return refused(port, Refusal::GlyphDoesNotFit);
+        return refused_in_line(port, Refusal::GlyphDoesNotFit);
     };
     let top = u16::from(y);
     fill_box(
@@ -223,6 +222,6 @@ pub fn draw_character(
         Ok(Source::Stored { start, size }) => {
             draw_in(framebuffer, port, height, part(store, start, size), byte)
         }
-        Err(refusal) => refused(port, refusal),
+        Err(refusal) => refused_in_line(port, refusal),
     }
 }

@@ -131,15 +131,8 @@ or_none (suc a) b = ne_eqb (bit_or (suc a) b) 0 (omega (arith, or_add_and (suc a
 pub zeroing_end : (s : List ℕ) (o p a : ℕ) → Zeroing s o p a → 256 ≤ p → eqb a 0 ≡ zeros_from o s
 zeroing_end s o p a w h = sym (and-true (eqb a 0)) ∙ rw (zeros_past s p h) at w.rest
 
-zeroing_more : (s : List ℕ) (o p a : ℕ) → Zeroing s o p a → p < 256 → Zeroing s o (p + 1) (bit_or a (get_or s p 0))
+pub zeroing_more : (s : List ℕ) (o p a : ℕ) → Zeroing s o p a → p < 256 → Zeroing s o (p + 1) (bit_or a (get_or s p 0))
 zeroing_more s o p a w h = record { rest = rw (or_none a (get_or s p 0), and_assoc (eqb a 0) (eqb (get_or s p 0) 0) (zeros_from (p + 1) s), ← zeros_more s p h) w.rest }
-
--- the next is number i of those from o on
-pub zeroing_next : (s : List ℕ) (o i a : ℕ) → Zeroing s o (o + i) a → o + i < 256 → Zeroing s o (o + (i + 1)) (bit_or a (get_or (take (256 - o) (drop o s)) i 0))
-zeroing_next s o i a w h =
-    let e : o + (i + 1) ≡ o + i + 1 = omega arith in
-    let l : i < 256 - o = omega arith in
-    rw (e, get_or-take (256 - o) (drop o s) i 0 l, get_or-drop o s i 0) (zeroing_more s o (o + i) a w h)
 
 -- A survey: what was counted, and the table of the files before p.
 

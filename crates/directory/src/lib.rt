@@ -267,12 +267,12 @@ fn slot(e: Entry) -> usize
 
 // Whether every byte from number `from` to the directory's end is 0. No early way out, so that many are tested at once.
 fn zeros_from(store: &[u8], from: usize) -> bool
-    requires { (256 ≤ length store.now) × (from ≤ 256) }
+    requires { 256 ≤ length store.now }
     ensures { result ≡ zeros_from from store.now }
 {
     let mut all = 0;
-    for &b in &store[from..DIRECTORY] {
-        all |= b;
+    for p in from..DIRECTORY {
+        all |= store[p];
     }
     all == 0
 }

@@ -132,7 +132,7 @@ pub fn display_arrive(state: &[u8], queue: &mut [u8], byte: u8, signal: &mut u8)
             *signal = number_sent(sent);
             0
         }
-        Err(error) => u32::from(u8::from(error)),
+        Err(error) => u32::from(u8::from(error)), // full, or not sound
     }
 }
 
@@ -152,6 +152,6 @@ pub fn display_take(state: &[u8], queue: &mut [u8], byte: &mut u8, signal: &mut 
             *signal = number_sent(taken.signal);
             0
         }
-        Err(error) => u32::from(u8::from(error)),
+        Err(error) => u32::from(u8::from(error)), // empty, or not sound
     }
 }

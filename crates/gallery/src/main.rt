@@ -12,11 +12,11 @@ use strip_chart::shift_strip;
 
 fn show_pixel(rt: &impl Print, framebuffer: &[u8], x: u16, y: u16) -> io::Result<()> {
     let mark = if is_black(framebuffer, x, y) {
-        '#'
+        b"#"
     } else {
-        '.'
+        b"."
     };
-    print!(rt; "{mark}")
+    rt.write_all(mark)
 }
 
 fn show_row(rt: &impl Print, framebuffer: &[u8], x1: u16, x2: u16, y: u16) -> io::Result<()> {

@@ -11,7 +11,7 @@ ghost use Rattle.outcome.specs.Contract.{unlent, lent, untold, told, told_editio
 
 use commands::{first_number, number_bytes, obey};
 use directory::{BITMAP, MAX_NUMBER, find};
-use outcome::{Outcome, done, in_phase, refused};
+use outcome::{Outcome, done, in_phase, refused_in_line};
 use refusals::Refusal;
 use state::{ARGUMENTS, Command, Config, Line, Phase, Port, arguments_of};
 
@@ -67,7 +67,10 @@ fn gathering(port: Port, code: u8, got: u8, args: [u8; ARGUMENTS]) -> Port
         phase: Phase::Gathering { code, got },
         args,
     };
-    Port { line, ..port }
+    // Copied whole, as in outcome.
+    let mut next = port;
+    next.line = line;
+    next
 }
 
 // Whether the last byte of a saved bitmap's number is due.
@@ -85,10 +88,10 @@ fn take_bitmap(store: &[u8], port: Port, edition: u8, got: u8, byte: u8) -> Outc
     let args = gathered(port, got, byte);
     let number = first_number(edition, args);
     if number > MAX_NUMBER {
-        return refused(port, Refusal::NumberOutOfRange);
+        return refused_in_line(port, Refusal::NumberOutOfRange);
     }
     let Some(_) = find(store, BITMAP, number) else {
-        return refused(port, Refusal::NoSuchFile);
+        return refused_in_line(port, Refusal::NoSuchFile);
     };
     done(gathering(port, SHOW_BITMAP, got + 1, args))
 }

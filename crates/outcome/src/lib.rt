@@ -33,23 +33,27 @@ pub fn two_bytes(first: u8, second: u8) -> Reply
     Reply::Two(first, second)
 }
 
+// Here and below the port is copied whole, and then a part of it is set: a struct update moves each part by itself, and an upload's byte takes
+// half as long again (docs/DESIGN-PASS.md, Speed and size).
+
 // The line in another phase, with no arguments gathered.
 pub fn in_phase(port: Port, phase: Phase) -> Port
     ensures { result ≡ in_phase_of port phase }
 {
-    Port {
-        line: Line {
-            phase,
-            args: [0; ARGUMENTS],
-        },
-        ..port
-    }
+    let mut next = port;
+    next.line = Line {
+        phase,
+        args: [0; ARGUMENTS],
+    };
+    next
 }
 
 pub fn put_text(port: Port, text: Text) -> Port
     ensures { result ≡ with_text port text }
 {
-    Port { text, ..port }
+    let mut next = port;
+    next.text = text;
+    next
 }
 
 // What was under way ends, the refusal is counted, from 65535 on to 0, and is the last one. Any byte may be its number.
@@ -60,10 +64,9 @@ pub fn refuse<R: Into<u8>>(port: Port, refusal: R) -> Port
         count: port.refusals.count.wrapping_add(1),
         last: refusal.into(),
     };
-    Port {
-        refusals,
-        ..in_phase(port, Phase::Idle)
-    }
+    let mut ended = in_phase(port, Phase::Idle);
+    ended.refusals = refusals;
+    ended
 }
 
 pub fn done(port: Port) -> Outcome
@@ -72,10 +75,20 @@ pub fn done(port: Port) -> Outcome
     sending(port, Reply::Silence)
 }
 
-pub fn refused<R: Into<u8>>(port: Port, refusal: R) -> Outcome
+// In line, for what obeys a byte by itself: its port then stays in registers.
+#[inline(always)]
+pub fn refused_in_line<R: Into<u8>>(port: Port, refusal: R) -> Outcome
     ensures { (n : ℕ) × R.converts refusal n × (result ≡ refused_of port n) }
 {
     done(refuse(port, refusal))
+}
+
+// As a call, for the commands: in line, each of them would move the port part by part, and refusals are few.
+#[inline(never)]
+pub fn refused<R: Into<u8>>(port: Port, refusal: R) -> Outcome
+    ensures { (n : ℕ) × R.converts refusal n × (result ≡ refused_of port n) }
+{
+    refused_in_line(port, refusal)
 }
 
 pub fn sending(port: Port, reply: Reply) -> Outcome

@@ -93,6 +93,16 @@ module _ {i m : ℕ} {c : Bool} {g₀ : List ℕ} where
           columns_step s.above (e ∙ rw s.place (put_region (masked (30 * s.y + i) m) (in_row (byte_columns i m) s.y) (plain c) g
           (λ u v on. byte_row i m s.y (length g) u v l on)))
 
+  -- the same by rows
+  pub column_first : Bytes g₀ → Column i m (30 * 0 + i) c g₀ g₀
+  column_first b = record { y = 0; place = omega arith; above = columns_start b; long = refl }
+
+  pub column_next : (y : ℕ) {g h : List ℕ} → i < 30 → Column i m (30 * y + i) c g₀ g → h ≡ fill (masked (30 * y + i) m) c g → Column i m (30 * (y + 1) + i) c g₀ h
+  column_next y l s e = rw (next y) (column_more l s e)
+    where
+      next : (y : ℕ) → 30 * (y + 1) + i ≡ 30 * y + i + 30
+      next y = omega arith
+
   pub column_all : {at : ℕ} {g : List ℕ} → Column i m at c g₀ g → length g ≤ at → g ≡ fill (in_all (byte_columns i m)) c g₀
   unfolding byte_columns
   column_all {at} {g} s l =

@@ -118,8 +118,8 @@ fn fill_byte_column(rows: &mut [u8], first: usize, mask: u8, c: Colour)
     requires { first < stride }
     ensures { rows.new ≡ fill (in_all (byte_columns first mask)) c.black rows.old }
 {
-    for at in (first..rows.len()).step_by(STRIDE) {
-        stamp_inside(rows, at, mask, c);
+    for y in 0..rows.len().saturating_sub(first).div_ceil(STRIDE) {
+        stamp_inside(rows, STRIDE * y + first, mask, c);
     }
 }
 

@@ -43,3 +43,6 @@ impl From<Refusal> for u8 {
         }
     }
 }
+
+// A character that the font lacks: no longer given, so no `Refusal` has this number.
+pub const NO_GLYPH: u8 = 28;

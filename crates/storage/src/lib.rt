@@ -18,7 +18,10 @@ use directory::{
     record_length, tally,
 };
 use files::{append, delete, store_byte, unused};
-use outcome::{Outcome, done, in_phase, one_byte, put_text, refuse, refused, sending, two_bytes};
+use outcome::{
+    Outcome, done, in_phase, one_byte, put_text, refuse, refused, refused_in_line, sending,
+    two_bytes,
+};
 use panel::{set_used, used_in};
 use refusals::Refusal;
 use state::{NEWER, PATIENCE, Phase, Port, Text, start_text};
@@ -200,7 +203,7 @@ pub fn upload_data(
         return sending(next, one_byte(byte));
     }
     if byte != CONFIRM {
-        return refused(port, Refusal::UploadAborted);
+        return refused_in_line(port, Refusal::UploadAborted);
     }
     let used = used_in(panel);
     store_byte(store, used, stored, held);

@@ -8,7 +8,7 @@ use Rattle.characters.proofs.Places.{fits, moved_none, drawn_29, drawn_done, box
 use Rattle.characters.proofs.draw_box.Goals as goal
 
 pub returns-in_default : goal.returns-in_default
-returns-in_default c = obeys_refused 29 c.refused.ensures (λ h g s p. ap (λ (x : List ℕ). held h x s p c.args.port) (moved_none _ _ _ c.in_default.is c.make_room.ensures.1)) (λ h g s p. drawn_29 _ _ _ _ _ _ _ c.make_room.ensures.0 c.in_default.is)
+returns-in_default c = obeys_refused 29 c.refused_in_line.ensures (λ h g s p. ap (λ (x : List ℕ). held h x s p c.args.port) (moved_none _ _ _ c.in_default.is c.make_room.ensures.1)) (λ h g s p. drawn_29 _ _ _ _ _ _ _ c.make_room.ensures.0 c.in_default.is)
 
 pub overflow_add-x : goal.overflow_add-x
 overflow_add-x c = omega (arith, (fits _ _ _ _ _ _ c.make_room.ensures.0 c.in-Some.is).right, c.from.ensures)

@@ -12,4 +12,4 @@ pub returns-in-Ok-Stored : goal.returns-in-Ok-Stored
 returns-in-Ok-Stored c = obeys_as c.draw_in.ensures (λ h g s p. refl) (λ h g s p. character_opened _ _ _ _ _ (from_stored _ _ _ _ c.find_font.ensures _ _ _ (c.in-Ok-Stored.is ∙ ap Ok c.in-Ok-Stored.field-0-is) c.part.ensures))
 
 pub returns-in-Err : goal.returns-in-Err
-returns-in-Err c = obeys_refused _ c.refused.ensures (λ h g s p. refl) (λ h g s p. character_shut _ _ _ _ _ (from_refused _ _ _ _ c.find_font.ensures _ c.in-Err.is))
+returns-in-Err c = obeys_refused _ c.refused_in_line.ensures (λ h g s p. refl) (λ h g s p. character_shut _ _ _ _ _ (from_refused _ _ _ _ c.find_font.ensures _ c.in-Err.is))

@@ -1,9 +1,9 @@
-use Rattle.std.proofs.Common.{arith}
-use Rattle.directory.proofs.Walks.{zeroing_end, zeroing_next}
+use borrow.Author.Rules.{rules}
+use Rattle.directory.proofs.Walks.{zeroing_end, zeroing_more}
 use Rattle.directory.proofs.zeros_from.Goals as goal
 
-pub loop-b-preserved : goal.loop-b-preserved
-loop-b-preserved c = zeroing_next _ _ _ _ c.loop-b.invariant (omega arith)
+pub loop-p-preserved : goal.loop-p-preserved
+loop-p-preserved c = zeroing_more _ _ _ _ c.loop-p.invariant (search rules)
 
 pub returns : goal.returns
-returns c = zeroing_end _ _ _ _ c.loop-b.invariant (omega arith)
+returns c = zeroing_end _ _ _ _ c.loop-p.invariant (search rules)

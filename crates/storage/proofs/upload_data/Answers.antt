@@ -7,7 +7,7 @@ pub returns-then-not-waiting : goal.returns-then-not-waiting
 returns-then-not-waiting c = obeys_one _ _ (sending_with c.in_phase-next.ensures c.one_byte.ensures c.sending.ensures) (λ p. refl) (λ h g s p. data_echoed _ _ _ _ _ _ _ _ _ _ (search rules))
 
 pub returns-then-byte-ne-CONFIRM : goal.returns-then-byte-ne-CONFIRM
-returns-then-byte-ne-CONFIRM c = obeys_refused 26 c.refused.ensures (λ h g s p. refl) (λ h g s p. data_26 _ _ _ _ _ _ _ _ _ _ (search rules) (search rules))
+returns-then-byte-ne-CONFIRM c = obeys_refused 26 c.refused_in_line.ensures (λ h g s p. refl) (λ h g s p. data_26 _ _ _ _ _ _ _ _ _ _ (search rules) (search rules))
 
 pub returns-then-from : goal.returns-then-from
 returns-then-from c = obeys_done _ (done_with c.in_phase-next-then-from.ensures c.done.ensures) (λ p. refl) (λ h g s p. data_more _ _ _ _ _ _ _ _ _ _ _ _ (search rules) c.if-byte-ne-CONFIRM.false c.used_in-used.ensures c.store_byte.ensures (search rules))
