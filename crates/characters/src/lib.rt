@@ -85,13 +85,14 @@ fn wrapped(text: Text, size: Size) -> Option<Place>
 fn place_for(text: Text, size: Size, height: u8) -> Option<Place>
     ensures { result ≡ place_of (fitted height size.width size.height (wrapped text size.width size.height)) }
 {
-    let place = wrapped(text, size)?;
-    if u32::from(place.x) + u32::from(size.width) > u32::from(WIDTH)
-        || u16::from(place.y) + u16::from(size.height) > u16::from(height)
+    // Taken apart here and in `make_room`: handed on whole, it goes through memory, written part by part and read in one, which waits.
+    let Place { x, y, up } = wrapped(text, size)?;
+    if u32::from(x) + u32::from(size.width) > u32::from(WIDTH)
+        || u16::from(y) + u16::from(size.height) > u16::from(height)
     {
         return None;
     }
-    Some(place)
+    Some(Place { x, y, up })
 }
 
 fn move_up(framebuffer: &mut [u8], rows: u16)
@@ -106,9 +107,9 @@ fn move_up(framebuffer: &mut [u8], rows: u16)
 fn make_room(framebuffer: &mut [u8], text: Text, size: Size, height: u8) -> Option<Place>
     ensures { (result ≡ place_of (fitted height size.width size.height (wrapped text size.width size.height))) × (framebuffer.new ≡ moved_for result framebuffer.old) }
 {
-    let place = place_for(text, size, height)?;
-    move_up(framebuffer, place.up);
-    Some(place)
+    let Place { x, y, up } = place_for(text, size, height)?;
+    move_up(framebuffer, up);
+    Some(Place { x, y, up })
 }
 
 // The text point behind a character of this width at (x, y).

@@ -1,4 +1,5 @@
 // Drawing commands: clear, colour, pixel, line, frame, solid rectangle.
+// What sets a part of the port is never in line, as `refused` (outcome) is not.
 #![tactic(auto)]
 
 ghost use Rattle.std.specs.Prelude.{◌≡◌};
@@ -11,6 +12,7 @@ use refusals::Refusal;
 use state::{Drawing, Port, Text};
 
 // The whole framebuffer white, and the text point home.
+#[inline(never)]
 pub fn clear(framebuffer: &mut [u8], port: Port) -> Outcome
     ensures { Obeys untold clear port (lent framebuffer.old framebuffer.new) unlent unlent result }
 {
@@ -23,6 +25,7 @@ pub fn clear(framebuffer: &mut [u8], port: Port) -> Outcome
     done(put_text(port, text))
 }
 
+#[inline(never)]
 pub fn set_colour(port: Port, colour: u8) -> Outcome
     ensures { Obeys untold (λ w. set_colour w colour) port unlent unlent unlent result }
 {
@@ -42,6 +45,7 @@ pub fn draw_pixel(framebuffer: &mut [u8], port: Port, x: u8, y: u8) -> Outcome
 }
 
 // The end is kept as it came, beyond the framebuffer too.
+#[inline(never)]
 pub fn draw_line(framebuffer: &mut [u8], port: Port, x1: u8, y1: u8, x2: u8, y2: u8) -> Outcome
     ensures { Obeys untold (λ w. draw_line w x1 y1 x2 y2) port (lent framebuffer.old framebuffer.new) unlent unlent result }
 {

@@ -33,8 +33,8 @@ pub fn two_bytes(first: u8, second: u8) -> Reply
     Reply::Two(first, second)
 }
 
-// Here and below the port is copied whole, and then a part of it is set: a struct update moves each part by itself, and an upload's byte takes
-// half as long again (docs/DESIGN-PASS.md, Speed and size).
+// Here and below the port is copied whole, and then a part of it is set: a struct update moves each part by itself, and a character or an upload's
+// byte takes a fifth more instructions (docs/DESIGN-PASS.md, Speed and size).
 
 // The line in another phase, with no arguments gathered.
 pub fn in_phase(port: Port, phase: Phase) -> Port
@@ -83,7 +83,8 @@ pub fn refused_in_line<R: Into<u8>>(port: Port, refusal: R) -> Outcome
     done(refuse(port, refusal))
 }
 
-// As a call, for the commands: in line, each of them would move the port part by part, and refusals are few.
+// As a call, for the commands: in line, each of them would move the port part by part, and refusals are few. So is each command that sets a part of
+// the port, since what one of them has in line all of them pay for.
 #[inline(never)]
 pub fn refused<R: Into<u8>>(port: Port, refusal: R) -> Outcome
     ensures { (n : ℕ) × R.converts refusal n × (result ≡ refused_of port n) }

@@ -1,4 +1,5 @@
 // Commands of saved bitmaps and of data in line.
+// What sets a part of the port is never in line, as `refused` (outcome) is not.
 #![tactic(auto)]
 
 ghost use Rattle.std.specs.Prelude.{◌≡◌, ℕ, [], true, IfOk, IfErr};
@@ -59,6 +60,7 @@ pub fn show_bitmap(
     done(port)
 }
 
+#[inline(never)]
 pub fn begin_inline(port: Port, x1: u8, y1: u8, x2: u8, y2: u8) -> Outcome
     ensures { Obeys untold (λ w. begin_inline w x1 y1 x2 y2) port unlent unlent unlent result }
 {

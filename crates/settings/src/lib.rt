@@ -1,4 +1,5 @@
 // Commands that only set something: flow control, contrast, backlight, serial number.
+// What sets a part of the port is never in line, as `refused` (outcome) is not.
 #![tactic(auto)]
 
 ghost use Rattle.rules.specs.Settings.{flow_on, flow_off, set_contrast, backlight_on, backlight_off, set_serial};
@@ -9,6 +10,7 @@ use queue::{Flow, SIZE};
 use refusals::Refusal;
 use state::Port;
 
+#[inline(never)]
 pub fn flow_on(port: Port, full: u8, empty: u8) -> Outcome
     ensures { Obeys untold (λ w. flow_on w full empty) port unlent unlent unlent result }
 {
@@ -24,6 +26,7 @@ pub fn flow_on(port: Port, full: u8, empty: u8) -> Outcome
 }
 
 // The thresholds stay.
+#[inline(never)]
 pub fn flow_off(port: Port) -> Outcome
     ensures { Obeys untold flow_off port unlent unlent unlent result }
 {

@@ -1,4 +1,5 @@
 // Commands of files: upload, delete, purge.
+// What sets a part of the port is never in line, as `refused` (outcome) is not.
 #![tactic(auto)]
 
 ghost use Rattle.std.specs.Prelude.{◌≡◌, ◌+◌, ◌-◌, ◌%◌, ◌||◌, nat_lt};
@@ -126,6 +127,7 @@ fn telling(port: Port, refusal: Refusal) -> Outcome
     sending(refuse(port, refusal), one_byte(TURNED_AWAY))
 }
 
+#[inline(never)]
 pub fn begin_upload(
     store: &[u8],
     panel: &[u8],
@@ -277,6 +279,7 @@ fn take_out(store: &mut [u8], panel: &mut [u8], sort: u8, number: u16, size: usi
 }
 
 // The room of the file is free; a deleted font that was the current one leaves font 1.
+#[inline(never)]
 pub fn delete_file(
     store: &mut [u8],
     panel: &mut [u8],
@@ -308,6 +311,7 @@ pub fn delete_file(
 }
 
 // Nothing is used, text settings go back to the start, and the text point home.
+#[inline(never)]
 pub fn purge(
     store: &mut [u8],
     panel: &mut [u8],

@@ -1,4 +1,5 @@
 // Text: its settings, the text point and the current font. Characters are drawn in the crate above.
+// What sets a part of the port is never in line, as `refused` (outcome) is not.
 #![tactic(auto)]
 
 ghost use Rattle.std.specs.Prelude.{◌≡◌, [], ◌∷◌, ◌+◌, ◌*◌, ◌-◌, ◌<◌};
@@ -23,12 +24,14 @@ pub enum Source {
 }
 
 // The text point to the margins.
+#[inline(never)]
 pub fn home(port: Port) -> Outcome
     ensures { Obeys untold (λ w. quietly (put_text w (home w.state.port.text))) port unlent unlent unlent result }
 {
     set_point(port, port.text.left, port.text.top)
 }
 
+#[inline(never)]
 pub fn set_point(port: Port, x: u8, y: u8) -> Outcome
     ensures { Obeys untold (λ w. quietly (put_text w (at_point w.state.port.text x y))) port unlent unlent unlent result }
 {
@@ -40,6 +43,7 @@ pub fn set_point(port: Port, x: u8, y: u8) -> Outcome
     done(put_text(port, text))
 }
 
+#[inline(never)]
 pub fn set_wrap(port: Port, on: bool) -> Outcome
     ensures { Obeys untold (λ w. quietly (put_text w (with_wrap w.state.port.text on))) port unlent unlent unlent result }
 {
@@ -50,6 +54,7 @@ pub fn set_wrap(port: Port, on: bool) -> Outcome
     done(put_text(port, text))
 }
 
+#[inline(never)]
 pub fn set_scroll(port: Port, on: bool) -> Outcome
     ensures { Obeys untold (λ w. quietly (put_text w (with_scroll w.state.port.text on))) port unlent unlent unlent result }
 {
@@ -60,6 +65,7 @@ pub fn set_scroll(port: Port, on: bool) -> Outcome
     done(put_text(port, text))
 }
 
+#[inline(never)]
 pub fn set_metrics(
     port: Port,
     left: u8,
@@ -99,6 +105,7 @@ pub fn find_font(store: &[u8], height: u8, number: u16) -> Result<Source, Refusa
 }
 
 // The current font.
+#[inline(never)]
 pub fn choose_font(store: &[u8], port: Port, height: u8, number: u16) -> Outcome
     ensures { Obeys (told height) (λ w. choose_font w number) port unlent (lent store.now store.now) unlent result }
 {
@@ -139,6 +146,7 @@ fn place_by(port: Port, height: u8, nominal: u8, tall: u8, column: u8, row: u8) 
     set_point(port, x as u8, y as u8)
 }
 
+#[inline(never)]
 pub fn set_place(store: &[u8], port: Port, height: u8, column: u8, row: u8) -> Outcome
     ensures { Obeys (told height) (λ w. set_place w column row) port unlent (lent store.now store.now) unlent result }
 {
